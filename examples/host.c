@@ -1,7 +1,7 @@
 /* A small host: it keeps a state in a file and does one thing to it each time that it is run, so that each run is a restart.
 
      host FILE load PLAN          a fresh state with the plan that the text file PLAN says, in place of what FILE holds
-     host FILE post P O VALUE..   posts a message to partner P's operation O, with one to four values
+     host FILE post P O VALUE..   posts a message to partner P's operation O, with one to four values; reply R behind them is the partner to reply to
      host FILE offers             how many steps are offered, and what each would do
      host FILE step CHOICE        takes a step
      host FILE run BUDGET CHOICE..
@@ -191,13 +191,14 @@ static int load(const char *plan_name)
     return 0;
 }
 
-static int post(const uint64_t *numbers, int many)
+static int post(const uint64_t *numbers, int many, uint64_t reply)
 {
     uint32_t v[4] = {0, 0, 0, 0};
     uint32_t refusal;
     for (int i = 0; i < 4 && i + 2 < many; i++)
         v[i] = (uint32_t)numbers[i + 2];
-    refusal = moonhalyard_post(state, sizeof state, (uint32_t)numbers[0], (uint32_t)numbers[1], (uint32_t)many - 2, v[0], v[1], v[2], v[3]);
+    refusal = moonhalyard_post(state, sizeof state, (uint32_t)numbers[0], (uint32_t)numbers[1], (uint32_t)many - 2, v[0], v[1], v[2], v[3],
+                               (uint32_t)reply);
     if (refusal)
         printf("post: refused, %u: %s\n", refusal, moonhalyard_says(refusal));
     else
@@ -239,7 +240,7 @@ static int collect(void)
            moonhalyard_number(message + MOONHALYARD_MESSAGE_OPERATION));
     for (uint32_t i = 0; i < moonhalyard_number(message + MOONHALYARD_MESSAGE_COUNT) && i < MOONHALYARD_MESSAGE_VALUES_MOST; i++)
         printf(" %u", moonhalyard_number(message + MOONHALYARD_MESSAGE_VALUES + 4 * i));
-    printf("\n");
+    printf(", reply to partner %u\n", moonhalyard_number(message + MOONHALYARD_MESSAGE_REPLY));
     return 0;
 }
 
@@ -272,11 +273,14 @@ int main(int argc, char **argv)
 {
     const char *word = argc > 2 ? argv[2] : "";
     uint64_t numbers[1024];
-    int many = argc - 3, changes = 1, refused;
+    int many = argc - 3, changes = 1, replies = 0, refused;
     if (argc < 3) {
         printf("usage: host FILE load|post|offers|step|run|collect|tally|orders ..\n");
         return 2;
     }
+    /* The word before the last number is left out, and the number is the partner to reply to. */
+    if (many > 1 && strcmp(word, "post") == 0 && strcmp(argv[argc - 2], "reply") == 0)
+        argv[argc - 2] = argv[argc - 1], many--, replies = 1;
     if (many > 1024)
         fail("%s: too many numbers", word);
     for (int i = 0; i < many && strcmp(word, "load") != 0; i++)
@@ -290,8 +294,8 @@ int main(int argc, char **argv)
         fail("%s: no state in %s", word, argv[1]);
     if (strcmp(word, "load") == 0 && many == 1)
         refused = load(argv[3]);
-    else if (strcmp(word, "post") == 0 && many >= 3)
-        refused = post(numbers, many);
+    else if (strcmp(word, "post") == 0 && many - replies >= 3)
+        refused = post(numbers, many - replies, replies ? numbers[many - 1] : 0);
     else if (strcmp(word, "offers") == 0 && many == 0)
         refused = offers(), changes = 0;
     else if (strcmp(word, "step") == 0 && many == 1)

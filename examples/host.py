@@ -34,9 +34,9 @@ def load(name: str, plan_name: str) -> int:
     return 0
 
 
-def done(state: moonhalyard.State, word: str, numbers: List[int]) -> None:
+def done(state: moonhalyard.State, word: str, numbers: List[int], replies: bool) -> None:
     if word == "post":
-        state.post(*numbers)
+        state.post(*numbers[: len(numbers) - replies], reply=numbers[-1] if replies else 0)
         print("post: it waits")
     elif word == "offers":
         offers = state.offers()
@@ -52,7 +52,8 @@ def done(state: moonhalyard.State, word: str, numbers: List[int]) -> None:
         message = state.collect()
         if message is None:
             raise Refused(15)
-        print("collect: to partner %d, operation %d: %s" % (message.partner, message.operation, " ".join(map(str, message.values))))
+        values = " ".join(map(str, message.values))
+        print("collect: to partner %d, operation %d: %s, reply to partner %d" % (message.partner, message.operation, values, message.reply))
     elif word == "tally":
         print("tally: started %d, well %d, handled %d, failed %d, left %d" % state.tally)
     else:
@@ -70,6 +71,10 @@ def main(words: List[str]) -> int:
     name, word, rest = words[0], words[1], words[2:]
     if word == "load" and len(rest) == 1:
         return load(name, rest[0])
+    # The word before the last number is left out, and the number is the partner to reply to.
+    replies = word == "post" and rest[-2:-1] == ["reply"]
+    if replies:
+        rest = rest[:-2] + rest[-1:]
     most = 2**32 - 1 if word == "post" else 2**64 - 1
     for digits in rest if word != "load" else []:
         if not (digits.isascii() and digits.isdigit() and int(digits) <= most):
@@ -78,10 +83,10 @@ def main(words: List[str]) -> int:
     try:
         with moonhalyard.kept(name) as state:
             least, most = TAKES.get(word, (1, 0))
-            if not least <= len(rest) <= most:
+            if not least <= len(rest) - replies <= most:
                 print("%s: no such command, or not with so many numbers" % word)
                 return 2
-            done(state, word, [int(digits) for digits in rest])
+            done(state, word, [int(digits) for digits in rest], replies)
     except (moonhalyard.NoState, FileNotFoundError):
         print("%s: no state in %s" % (word, name))
         return 1

@@ -2,7 +2,7 @@
 
    Link with libmoonhalyard (`pkg-config --cflags --libs moonhalyard`), which is for x86-64 Linux and needs nothing but memcpy, memmove and memset.
 
-   A plan is bytes. A state is 12,492 bytes that the caller keeps: it holds the plan, the orders, the messages that wait and the tally. No call
+   A plan is bytes. A state is 12,748 bytes that the caller keeps: it holds the plan, the orders, the messages that wait and the tally. No call
    keeps anything of its own, so a state may be copied, written to a file and read back, and two states have nothing to do with each other.
 
    Every call answers on every input; there is nothing that a caller must have checked before. What a caller must see to:
@@ -43,14 +43,14 @@ enum moonhalyard_refusal {
     MOONHALYARD_NO_STEP = 10,      /* nothing offered, nothing held */
     MOONHALYARD_HELD = 11,         /* nothing offered, something held */
     MOONHALYARD_CHOICE = 12,       /* choice beyond the offer */
-    MOONHALYARD_MESSAGE_RULE = 13, /* post: partner, operation or count outside its rule */
+    MOONHALYARD_MESSAGE_RULE = 13, /* post: partner, operation, count or partner to reply to outside its rule */
     MOONHALYARD_FULL = 14,         /* post: 64 messages wait */
     MOONHALYARD_NOTHING = 15,      /* collect: no message for a partner that the plan never receives on */
     MOONHALYARD_NO_ACTIVITY = 16,  /* show: no activity k */
     MOONHALYARD_NO_STATE = 17,     /* state without an accepted plan, or with a number outside its limit; or bytes that hold no state */
     MOONHALYARD_ROOM = 18,         /* too little room, or too much (load); or buffers that overlap */
     MOONHALYARD_DISAGREE = 21,     /* receives that disagree: a count that differs from an earlier one for the same partner and operation */
-    MOONHALYARD_TEXT = 32          /* moonhalyard_text: 32 and the number of a reason, 33 to 60 */
+    MOONHALYARD_TEXT = 32          /* moonhalyard_text: 32 and the number of a reason, 33 to 62 */
 };
 
 /* A refusal in words, without a full stop, for people to read; never NULL. */
@@ -64,17 +64,17 @@ const char *moonhalyard_says(uint32_t refusal);
    has decided, or a pick has taken a message, and what stands within runs; and of a scope 3 its body is done and its close awaits its step, 4 faulted and
    waiting for inner scopes, 5 faulted and undoing, 6 running its fault part, 7 stopped and waiting for inner scopes, 8 stopped and undoing. Arms have 0.
    Where the root or a scope is 4, 5 or 6, its mark is that and 16 times which fault part it runs: 1 to 8 the one by number, in the order of the plan; 9 + n
-   the general one for a fault n of 0 to 4, and 15 for a fault with a number of the plan's own. 0, as in states that were saved before, is the general one too.
+   the general one for a fault n of 0 to 5, and 15 for a fault with a number of the plan's own. 0, as in states that were saved before, is the general one too.
    So ask for `mark & 15`.
 
-   Within its limit is: a plan's length up to 4,096; up to 64 messages that wait, each with a partner and an operation up to 63, a count of 1 to 4, and 0
-   in the values beyond it; a mark of those above; bound 0 or 1; up to 32 closings; a cause that
+   Within its limit is: a plan's length up to 4,096; up to 64 messages that wait, each with a partner, an operation and a partner to reply to up to 63, a
+   count of 1 to 4, and 0 in the values beyond it; a mark of those above; bound 0 or 1; up to 32 closings; a cause that
    is the number of a fault.
 
    Bytes of another length or with another mark in front hold no state: every call but load and upgrade answers 17 for them and leaves them as they
    are. */
 /* layout: written by tools/layout from data/layout.txt */
-#define MOONHALYARD_MARK "MOONHAL3"
+#define MOONHALYARD_MARK "MOONHAL4"
 #define MOONHALYARD_TALLY_STARTED 8
 #define MOONHALYARD_TALLY_WELL 12
 #define MOONHALYARD_TALLY_HANDLED 16
@@ -85,15 +85,16 @@ const char *moonhalyard_says(uint32_t refusal);
 #define MOONHALYARD_WAITING 4132
 #define MOONHALYARD_MESSAGES 4140
 #define MOONHALYARD_MESSAGES_MOST 64
-#define MOONHALYARD_ORDERS 5932
+#define MOONHALYARD_ORDERS 6188
 #define MOONHALYARD_ORDERS_MOST 16
-#define MOONHALYARD_STATE 12492
+#define MOONHALYARD_STATE 12748
 #define MOONHALYARD_MESSAGE_PARTNER 0
 #define MOONHALYARD_MESSAGE_OPERATION 4
 #define MOONHALYARD_MESSAGE_COUNT 8
 #define MOONHALYARD_MESSAGE_VALUES 12
 #define MOONHALYARD_MESSAGE_VALUES_MOST 4
-#define MOONHALYARD_MESSAGE 28
+#define MOONHALYARD_MESSAGE_REPLY 28
+#define MOONHALYARD_MESSAGE 32
 #define MOONHALYARD_ORDER_ROOT 0
 #define MOONHALYARD_ORDER_MARKS 1
 #define MOONHALYARD_ORDER_MARKS_MOST 256
@@ -171,7 +172,8 @@ enum moonhalyard_fault {
     MOONHALYARD_FAULT_UNBOUND = 1,    /* a variable that is not bound */
     MOONHALYARD_FAULT_SUM = 2,        /* a sum above 4,294,967,295 */
     MOONHALYARD_FAULT_DIFFERENCE = 3, /* a difference below zero */
-    MOONHALYARD_FAULT_CONFLICT = 4    /* two receives or arms open with the same partner, operation and variables */
+    MOONHALYARD_FAULT_CONFLICT = 4,   /* two receives or arms open with the same partner, operation and variables */
+    MOONHALYARD_FAULT_PARTNER = 5     /* a send whose variable holds a partner above 63 */
 };
 
 /* To last. The state in memory is all there is, and it is the host's to save: written whole under a new name, brought to disk, renamed over the old, and
@@ -193,13 +195,14 @@ uint64_t moonhalyard_show(const uint8_t *plan, size_t n, uint32_t k);
 
 /* Loads a plan. The answer is 0; or its refusal (1 to 9, 21) times 2^32, and the refusal's place. The state is a fresh one with the plan, with no
    order and no message, or, where the plan is refused, one with no plan; nothing is counted. Whatever `state` held before does not matter.
-   Where `size` is not 12,492 the answer is 18 times 2^32, and nothing is written. */
+   Where `size` is not 12,748 the answer is 18 times 2^32, and nothing is written. */
 uint64_t moonhalyard_load(const uint8_t *plan, size_t n, uint8_t *state, size_t size);
 
 /* Brings a state of this or an older version, as it was saved, up to date: `old` is read, `state` is written. The answer is 0 or a refusal (18 where `size`
-   is not 12,492, 17 where `old` holds no state), and where it is refused nothing is written. A state of this version, MOONHAL3, comes out as it is; one of the
-   second, MOONHAL2, of 12,476 bytes, or of the first, MOONHAL1, of 11,964, as the same state of this one, where no cause is known: each is 0. Whether its plan is
-   accepted and its numbers are within their limits the other calls see. */
+   is not 12,748, 17 where `old` holds no state), and where it is refused nothing is written. A state of this version, MOONHAL4, comes out as it is; one of the
+   third, MOONHAL3, of 12,492 bytes, of the second, MOONHAL2, of 12,476, or of the first, MOONHAL1, of 11,964, as the same state of this one. The partners to
+   reply to of its messages are 0, and so are causes that are not known, in the two first. Whether its plan is accepted and its numbers are within their limits
+   the other calls see. */
 uint32_t moonhalyard_upgrade(const uint8_t *old, size_t n, uint8_t *state, size_t size);
 
 /* The seal of `n` bytes, to be kept behind them: read again, they are whole where their seal is the one that was kept. Bytes that differ in one place
@@ -207,17 +210,18 @@ uint32_t moonhalyard_upgrade(const uint8_t *old, size_t n, uint8_t *state, size_
 uint64_t moonhalyard_seal(const uint8_t *bytes, size_t n);
 
 /* Posts a message: it waits after the others. The answer is 0 or a refusal (17, 13, 14), and where it is refused the state is left as it is.
-   Partner and operation are 0 to 63, `count` values 1 to 4; values beyond the count are not looked at, and are kept as 0. */
+   Partner and operation are 0 to 63, `count` values 1 to 4; values beyond the count are not looked at, and are kept as 0. `reply` is the partner to reply
+   to, 0 to 63: a receive of code 18 stores it in a variable, and collect and drop hand it out; who has none to tell gives 0. */
 uint32_t moonhalyard_post(uint8_t *state, size_t size, uint32_t partner, uint32_t operation, uint32_t count, uint32_t v0, uint32_t v1, uint32_t v2,
-                          uint32_t v3);
+                          uint32_t v3, uint32_t reply);
 
-/* Collects the oldest message for a partner that the plan never receives on: it is written into the first 28 bytes of `message`, and waits no
-   longer. The answer is 0 or a refusal (18, 17, 15). Refused by 17 or 15, the 28 bytes are 0 and the state is left as it is. Where `room` is
-   below 28 the answer is 18, and neither changes. Bytes of `message` after the first 28 never change. */
+/* Collects the oldest message for a partner that the plan never receives on: it is written into the first 32 bytes of `message`, and waits no
+   longer. The answer is 0 or a refusal (18, 17, 15). Refused by 17 or 15, the 32 bytes are 0 and the state is left as it is. Where `room` is
+   below 32 the answer is 18, and neither changes. Bytes of `message` after the first 32 never change. */
 uint32_t moonhalyard_collect(uint8_t *state, size_t size, uint8_t *message, size_t room);
 
 /* Drops the message that waits at a place, counted from 0, oldest first, whatever its partner: a way out for one that nothing will ever take. It is
-   written into the first 28 bytes of `message`, and waits no longer. The answer is 0 or a refusal (18, 17, 15), with the same outcome as that of
+   written into the first 32 bytes of `message`, and waits no longer. The answer is 0 or a refusal (18, 17, 15), with the same outcome as that of
    moonhalyard_collect; 15 where no message waits at that place. */
 uint32_t moonhalyard_drop(uint8_t *state, size_t size, size_t place, uint8_t *message, size_t room);
 
@@ -254,7 +258,7 @@ uint32_t moonhalyard_run(uint8_t *state, size_t size, const uint64_t *choices, s
 uint32_t moonhalyard_tell(uint8_t *state, size_t size, const uint64_t *choices, size_t many, uint64_t *budget, uint64_t *told, size_t room);
 
 /* Writes the plan that a text says (docs/DESK.md, "A plan as text") into the front of `plan`. The answer is how many bytes it has; or the refusal times
-   2^32, and the line in trouble, counted from 1: 33 to 60 where the text is wrong there, or what moonhalyard_write refuses, whose row is told by its line
+   2^32, and the line in trouble, counted from 1: 33 to 62 where the text is wrong there, or what moonhalyard_write refuses, whose row is told by its line
    (for 1 and 18 that of the first row). A refused text changes nothing in `plan`, and bytes behind the plan never change. Takes up to 512 KiB of stack. */
 uint64_t moonhalyard_text(const uint8_t *text, size_t n, uint8_t *plan, size_t room);
 
@@ -272,6 +276,8 @@ uint64_t moonhalyard_draw(const uint8_t *plan, size_t n, uint8_t *text, size_t r
      14 scope with fault parts by number                  its code; its body is next; then a row with how many there are; for each a row with its number,
                            and that part; then the general fault part and the undo part
      1 send, 2 receive     its code, partner, operation, how many variables, and their numbers
+     17 send to the partner that a variable holds         its code, that variable, operation, how many variables, their numbers, and the partner to reply to
+     18 receive that stores the partner to reply to       its code, partner, operation, how many variables, their numbers, and the variable that stores it
      3 set                 its code and a variable; the rows of its expression are next
      6 choose, 7 repeat    its code; the rows of its expression are next, then its activities
      8 sequence, 9 flow, 10 pick                          its code and how many activities (a pick: arms) it has

@@ -16,7 +16,7 @@ static const char *const refusals[] = {
     "no step is offered, and none is held",
     "no step is offered, and some are held for want of room",
     "the choice is beyond the offer",
-    "the message's partner, operation or count is outside its rule",
+    "the message's partner, operation, count or partner to reply to is outside its rule",
     "64 messages wait already",
     "no message waits for a partner that the plan never receives on",
     "the plan has no such activity",
@@ -56,6 +56,8 @@ static const char *const reasons[] = {
     "expected 'arm: receive from partner P, operation O: V, ..'",
     "'and', 'or' and 'not' are words of expressions",
     "faults with a name are 16 to 255",
+    "expected 'with reply to partner P' in a send to the partner in a variable, 'with reply to into V' in a receive; no other send has it, and no arm",
+    "expected 'the partner in V, operation O: V, ..'",
 };
 
 const char *moonhalyard_says(uint32_t refusal)

@@ -66,7 +66,7 @@ static void words(void)
     same(moonhalyard_version(), MOONHALYARD_VERSION);
     same(strcmp(moonhalyard_says(MOONHALYARD_FULL), "64 messages wait already"), 0);
     for (uint32_t i = 0; i < 70; i++) {
-        int known = i <= MOONHALYARD_ROOM || i == MOONHALYARD_DISAGREE || (i > MOONHALYARD_TEXT && i <= MOONHALYARD_TEXT + 28);
+        int known = i <= MOONHALYARD_ROOM || i == MOONHALYARD_DISAGREE || (i > MOONHALYARD_TEXT && i <= MOONHALYARD_TEXT + 30);
         same(strcmp(moonhalyard_says(i), "unknown refusal") != 0, known);
     }
     same(strcmp(moonhalyard_says(UINT32_MAX), "unknown refusal"), 0);
@@ -117,8 +117,9 @@ static void offsets(void)
     same(memcmp(state, MOONHALYARD_MARK, 8), 0);
     same(moonhalyard_long(state + MOONHALYARD_PLAN_LENGTH), plan_length);
     same(memcmp(state + MOONHALYARD_PLAN, plan, plan_length), 0);
-    same(moonhalyard_post(state, sizeof state, 0, 0, 3, 101, 7, 40, 0), 0);
-    same(moonhalyard_post(state, sizeof state, 63, 62, 4, 1, 2, 3, UINT32_MAX), 0);
+    same(moonhalyard_post(state, sizeof state, 5, 0, 3, 101, 7, 40, 0, 10), 0);
+    same(moonhalyard_post(state, sizeof state, 63, 62, 4, 1, 2, 3, UINT32_MAX, 61), 0);
+    same(moonhalyard_post(state, sizeof state, 63, 62, 4, 1, 2, 3, UINT32_MAX, 64), MOONHALYARD_MESSAGE_RULE);
     same(moonhalyard_long(state + MOONHALYARD_WAITING), 2);
     message = moonhalyard_message(state, 1);
     same(moonhalyard_number(message + MOONHALYARD_MESSAGE_PARTNER), 63);
@@ -126,6 +127,8 @@ static void offsets(void)
     same(moonhalyard_number(message + MOONHALYARD_MESSAGE_COUNT), 4);
     same(moonhalyard_number(message + MOONHALYARD_MESSAGE_VALUES), 1);
     same(moonhalyard_number(message + MOONHALYARD_MESSAGE_VALUES + 12), UINT32_MAX);
+    same(moonhalyard_number(message + MOONHALYARD_MESSAGE_REPLY), 61);
+    same(moonhalyard_number(moonhalyard_message(state, 0) + MOONHALYARD_MESSAGE_REPLY), 10);
     same(moonhalyard_step_refusal(moonhalyard_step(state, sizeof state, 0)), 0);
     order = moonhalyard_order(state, 0);
     same(order[MOONHALYARD_ORDER_ROOT], 1);
@@ -136,6 +139,9 @@ static void offsets(void)
     same(moonhalyard_number(order + MOONHALYARD_ORDER_VALUES), 101);
     same(moonhalyard_number(order + MOONHALYARD_ORDER_VALUES + 4), 7);
     same(moonhalyard_number(order + MOONHALYARD_ORDER_VALUES + 8), 40);
+    /* The partner to reply to is stored, behind the answer and the reason. */
+    same(order[MOONHALYARD_ORDER_BOUND + 5], 1);
+    same(moonhalyard_number(order + MOONHALYARD_ORDER_VALUES + 20), 10);
     same(moonhalyard_number(state + MOONHALYARD_TALLY_STARTED), 1);
     same(moonhalyard_long(order + MOONHALYARD_ORDER_KEPT), 0);
     same(order[MOONHALYARD_ORDER_CAUSE], 0);
@@ -149,15 +155,17 @@ static void drops(void)
     uint8_t message[MOONHALYARD_MESSAGE];
     memcpy(other, state, sizeof state);
     same(moonhalyard_long(other + MOONHALYARD_WAITING), 1);
-    same(moonhalyard_post(other, sizeof other, 0, 0, 1, 9, 0, 0, 0), 0);
+    same(moonhalyard_post(other, sizeof other, 0, 0, 1, 9, 0, 0, 0, 63), 0);
     same(moonhalyard_drop(other, sizeof other, 2, message, sizeof message), 15);
     same(moonhalyard_drop(other, sizeof other, 0, message, sizeof message - 1), 18);
     same(moonhalyard_drop(other, sizeof other, 0, other, MOONHALYARD_MESSAGE), 18);
     same(moonhalyard_drop(other, sizeof other, 1, message, sizeof message), 0);
     same(moonhalyard_number(message + MOONHALYARD_MESSAGE_VALUES), 9);
+    same(moonhalyard_number(message + MOONHALYARD_MESSAGE_REPLY), 63);
     same(memcmp(other, state, sizeof state), 0);
     same(moonhalyard_drop(other, sizeof other, 0, message, sizeof message), 0);
     same(moonhalyard_number(message + MOONHALYARD_MESSAGE_PARTNER), 63);
+    same(moonhalyard_number(message + MOONHALYARD_MESSAGE_REPLY), 61);
     same(moonhalyard_long(other + MOONHALYARD_WAITING), 0);
 }
 
@@ -166,7 +174,7 @@ static void busy(uint8_t *of)
 {
     memcpy(of, state, MOONHALYARD_STATE);
     for (uint32_t i = 0; i < 12; i++) {
-        same(moonhalyard_post(of, MOONHALYARD_STATE, 0, 0, 3, 100 + i / 2, 7, 40, 0), 0);
+        same(moonhalyard_post(of, MOONHALYARD_STATE, 5, 0, 3, 100 + i / 2, 7, 40, 0, i), 0);
         if (i % 3 == 0)
             same(moonhalyard_step_refusal(moonhalyard_step(of, MOONHALYARD_STATE, 0)), 0);
     }
@@ -315,6 +323,12 @@ static void kept(const char *name)
     size_t n = contents(name, old, sizeof old);
     same(moonhalyard_upgrade(old, n, state, sizeof state), 0);
     same(memcmp(state, MOONHALYARD_MARK, 8), 0);
+    /* Its messages are those that waited; before MOONHAL4 they had 28 bytes from the same place on, and no partner to reply to. */
+    if (old[7] < '4')
+        for (uint32_t i = 0; i < MOONHALYARD_MESSAGES_MOST; i++) {
+            same(memcmp(moonhalyard_message(state, i), old + MOONHALYARD_MESSAGES + 28 * i, 28), 0);
+            same(moonhalyard_number(moonhalyard_message(state, i) + MOONHALYARD_MESSAGE_REPLY), 0);
+        }
     printf("%s: %u offered,", strrchr(name, '/') ? strrchr(name, '/') + 1 : name, moonhalyard_offers_many(moonhalyard_offers(state, sizeof state)));
     printf(" %d steps,", ended(state));
     for (int at = MOONHALYARD_TALLY_STARTED; at <= MOONHALYARD_TALLY_LEFT; at += 4)

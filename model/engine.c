@@ -2,7 +2,7 @@
    digest of all that the call could write go out for each, in eight bytes each. calls.rs is the other side. It ends where its input does. */
 #include "pipes.h"
 
-enum { BATCH = 1 << 20, STATE = 12512, MESSAGE = 40, CHOICES = 4096 };
+enum { BATCH = 1 << 20, STATE = 12768, MESSAGE = 48, CHOICES = 4096 };
 enum { PUT, LOAD, POST, COLLECT, OFFER, OFFERS, STEP, RUN, GET, SHOW };
 static u8 batch[BATCH], *at;
 static struct { u8 state[STATE], message[MESSAGE]; u64 budget; } desk;
@@ -33,7 +33,7 @@ static u64 called(void)
 {
     int call = (int)number(1);
     u64 size = number(4), n;
-    u32 m[7];
+    u32 m[8];
     u8 *from;
     if (call == PUT || call == LOAD) {
         __builtin_memset(desk.message, 0, MESSAGE);
@@ -50,9 +50,9 @@ static u64 called(void)
         at += n;
         return moonhalyard_load(from, n, desk.state, size);
     case POST:
-        for (int i = 0; i < 7; i++)
+        for (int i = 0; i < 8; i++)
             m[i] = (u32)number(4);
-        return moonhalyard_post(desk.state, size, m[0], m[1], m[2], m[3], m[4], m[5], m[6]);
+        return moonhalyard_post(desk.state, size, m[0], m[1], m[2], m[3], m[4], m[5], m[6], m[7]);
     case COLLECT:
         return moonhalyard_collect(desk.state, size, desk.message, number(4));
     case OFFER:

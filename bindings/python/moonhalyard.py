@@ -25,7 +25,7 @@ __all__ = [
 ]
 
 # layout: written by tools/layout from data/layout.txt
-MARK = b"MOONHAL3"
+MARK = b"MOONHAL4"
 TALLY_STARTED = 8
 TALLY_WELL = 12
 TALLY_HANDLED = 16
@@ -36,15 +36,16 @@ PLAN = 36
 WAITING = 4132
 MESSAGES = 4140
 MESSAGES_MOST = 64
-ORDERS = 5932
+ORDERS = 6188
 ORDERS_MOST = 16
-STATE = 12492
+STATE = 12748
 MESSAGE_PARTNER = 0
 MESSAGE_OPERATION = 4
 MESSAGE_COUNT = 8
 MESSAGE_VALUES = 12
 MESSAGE_VALUES_MOST = 4
-MESSAGE = 28
+MESSAGE_REPLY = 28
+MESSAGE = 32
 ORDER_ROOT = 0
 ORDER_MARKS = 1
 ORDER_MARKS_MOST = 256
@@ -63,7 +64,7 @@ CLOSING = 2
 # layout end
 ROW = 20
 ENDS = ("none", "well", "handled", "failed", "left")
-FAULTS = ("plain", "unbound", "sum", "difference", "conflict")
+FAULTS = ("plain", "unbound", "sum", "difference", "conflict", "partner")
 VERSION = 10000
 
 
@@ -82,7 +83,7 @@ def _library() -> ctypes.CDLL:
         ("load", u64, u8, size, u8, size),
         ("upgrade", u32, u8, size, u8, size),
         ("seal", u64, u8, size),
-        ("post", u32, u8, size, u32, u32, u32, u32, u32, u32, u32),
+        ("post", u32, u8, size, u32, u32, u32, u32, u32, u32, u32, u32),
         ("collect", u32, u8, size, u8, size),
         ("drop", u32, u8, size, size, u8, size),
         ("offer", u64, u8, size, u64),
@@ -123,7 +124,7 @@ class NoState(Refused):
 
 class Step(NamedTuple):
     """A step: its order's slot, its activity, the place of the message that it takes, the order's end (one of ENDS), and the number of the fault that it ended handled
-    or failed by (0 to 4: FAULTS), 0 where it did not."""
+    or failed by (0 to 5: FAULTS), 0 where it did not."""
 
     slot: int
     activity: int
@@ -140,11 +141,12 @@ class Offers(NamedTuple):
 
 
 class Message(NamedTuple):
-    """A message: its partner, its operation and one to four values."""
+    """A message: its partner, its operation, one to four values, and the partner to reply to."""
 
     partner: int
     operation: int
     values: Tuple[int, ...]
+    reply: int = 0
 
 
 class Tally(NamedTuple):
@@ -288,10 +290,10 @@ class State:
         """The bytes to save: they can be given to `from_bytes`, to a host in C or Rust, and to the desk's `open`."""
         return self._bytes.raw
 
-    def post(self, partner: int, operation: int, *values: int) -> None:
-        """Posts a message with one to four values: it waits after the others."""
+    def post(self, partner: int, operation: int, *values: int, reply: int = 0) -> None:
+        """Posts a message with one to four values, and with the partner to reply to: it waits after the others."""
         numbers = [_within(v, 0xFFFFFFFF) for v in (partner, operation, len(values)) + values]
-        refusal = _c.moonhalyard_post(self._bytes, STATE, *(numbers + [0, 0, 0, 0])[:7])
+        refusal = _c.moonhalyard_post(self._bytes, STATE, *(numbers + [0, 0, 0, 0])[:7], _within(reply, 0xFFFFFFFF))
         if refusal:
             raise Refused(refusal)
 
@@ -420,6 +422,7 @@ def _message(data: bytes) -> Message:
         _number(data, MESSAGE_PARTNER),
         _number(data, MESSAGE_OPERATION),
         tuple(_number(data, MESSAGE_VALUES + 4 * i) for i in range(count)),
+        _number(data, MESSAGE_REPLY),
     )
 
 

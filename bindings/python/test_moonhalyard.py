@@ -18,9 +18,9 @@ class Calls(unittest.TestCase):
         self.plan = moonhalyard.text(TEXT)
         self.state = State(self.plan)
 
-    def refused(self, number, call, *asked):
+    def refused(self, number, call, *asked, **named):
         with self.assertRaises(Refused) as raised:
-            call(*asked)
+            call(*asked, **named)
         self.assertEqual(raised.exception.number, number)
         self.assertIn(moonhalyard.says(number), str(raised.exception))
         return raised.exception
@@ -60,6 +60,10 @@ class Calls(unittest.TestCase):
         self.assertIsNone(state.collect())
         self.assertEqual(state.run([0, 0], 5), Ran(1, 10))
         self.assertEqual(state.collect(), Message(3, 1, (7, 9)))
+        state.post(5, 1, 7, reply=63)
+        self.refused(13, state.post, 5, 1, 7, reply=64)
+        self.assertRaises(ValueError, state.post, 5, 1, 7, reply=2**32)
+        self.assertEqual(state.collect(), Message(5, 1, (7,), 63))
         state.post(1, 2, 7)
         self.assertEqual(state.step(0).end, "well")
         self.assertEqual(state.tally, Tally(1, 1, 0, 0, 0))

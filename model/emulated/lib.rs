@@ -1,6 +1,9 @@
 //! The model's reader for callers in C: what accepting gives, as the proved library packs it.
 
 #[allow(dead_code)]
+#[path = "../src/plan.rs"]
+mod plan;
+#[allow(dead_code)]
 #[path = "../src/reader.rs"]
 mod reader;
 

@@ -18,6 +18,7 @@ unsafe extern "C" {
         v1: u32,
         v2: u32,
         v3: u32,
+        reply: u32,
     ) -> u32;
     fn moonhalyard_collect(state: *mut u8, size: usize, message: *mut u8, room: usize) -> u32;
     fn moonhalyard_offer(state: *const u8, size: usize, choice: u64) -> u64;
@@ -68,6 +69,7 @@ pub fn post(state: &mut [u8], message: Message) -> u32 {
         operation,
         count,
         values: [a, b, c, d],
+        reply,
     } = message;
     unsafe {
         let size = state.len();
@@ -81,6 +83,7 @@ pub fn post(state: &mut [u8], message: Message) -> u32 {
             b,
             c,
             d,
+            reply,
         )
     }
 }

@@ -7,8 +7,8 @@ use crate::state::Message;
 use std::io;
 
 /// All that a call may write: a state with some bytes after it, a message with some after it, a budget.
-pub const STATE: usize = 12_512;
-pub const MESSAGE: usize = 40;
+pub const STATE: usize = 12_768;
+pub const MESSAGE: usize = 48;
 pub const DESK: usize = STATE + MESSAGE + 8;
 
 #[derive(Clone, Debug, PartialEq, Eq)]

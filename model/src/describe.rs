@@ -3,7 +3,7 @@
 use crate::calls::Desk;
 use crate::packed;
 use crate::plan::Plan;
-use crate::state::State;
+use crate::state::{Message, State};
 use crate::vectors::hex;
 
 /// The plan on the desk, an activity on each line, and what isn't idle, unbound or empty.
@@ -45,7 +45,8 @@ pub fn fields(state: &State) -> Vec<String> {
     for (place, message) in state.messages.iter().enumerate() {
         if *message != Default::default() {
             let head = (message.partner, message.operation, message.count);
-            lines.push(format!("message {place} {head:?} {:?}", message.values));
+            let Message { values, reply, .. } = message;
+            lines.push(format!("message {place} {head:?} {values:?} reply {reply}"));
         }
     }
     for (slot, order) in state.orders.iter().enumerate() {

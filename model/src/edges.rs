@@ -284,7 +284,7 @@ pub fn every_code() -> Sheet {
     sheet.header(5, &[0, 3]);
     let body = sheet.begin();
     sheet.put(Kind::Code, 8);
-    sheet.put(Kind::ListCount, 13);
+    sheet.put(Kind::ListCount, 15);
 
     let receive = sheet.begin();
     sheet.message(Some(2), 63, 0, &[4, 0, 3, 1]);
@@ -293,6 +293,14 @@ pub fn every_code() -> Sheet {
     let send = sheet.begin();
     sheet.message(Some(1), 0, 63, &[2, 2, 0]);
     sheet.end(send);
+
+    let asking = sheet.begin();
+    sheet.asking_receive(0, 63, &[3, 4], 1);
+    sheet.end(asking);
+
+    let answer = sheet.begin();
+    sheet.held_send(1, 0, &[3, 3, 1, 0], 63);
+    sheet.end(answer);
 
     let set = sheet.begin();
     sheet.put(Kind::Code, 3);
@@ -411,6 +419,7 @@ pub fn all() -> Vec<Case> {
     start_forms(&mut cases);
     raises(&mut cases);
     parts_by_number(&mut cases);
+    replies(&mut cases);
     orders(&mut cases);
     agreement(&mut cases);
     swaps(&mut cases);
@@ -856,7 +865,7 @@ fn lists(cases: &mut Cases) {
         cases.add(format!("pick of {count}, then no bytes"), bytes, answer);
     }
     for code in TELLING {
-        if code >= u32::from(UNKNOWN) {
+        if code >= u32::from(UNKNOWN) && !matches!(code, 17 | 18) {
             let name = format!("code {code}");
             cases.add(
                 format!("{name} as body"),
@@ -1274,6 +1283,8 @@ fn start_forms(cases: &mut Cases) {
     // Start forms and how many activities they hold, then what is none.
     let mut forms: Vec<(Vec<u8>, usize, bool)> = vec![
         (RECEIVE.to_vec(), 1, true),
+        (vec![18, 3, 5, 1, 0, 1], 1, true),
+        (vec![17, 1, 0, 1, 0, 9], 1, false),
         (pick.to_vec(), 3, true),
         (EMPTY.to_vec(), 1, false),
         (send.to_vec(), 1, false),
@@ -1289,7 +1300,7 @@ fn start_forms(cases: &mut Cases) {
         let known = forms.clone();
         for (at, (bytes, count, starts)) in known.iter().enumerate() {
             // The second round builds on what the first one built, and not on all of it.
-            if round == 1 && (at < 10 || at % 5 != 0) {
+            if round == 1 && (at < 12 || at % 5 != 0) {
                 continue;
             }
             let (count, starts) = (*count, *starts);
@@ -1417,9 +1428,9 @@ fn raises(cases: &mut Cases) {
     );
 }
 
-/// Document 02, request 4: a scope with one to eight fault parts by number, each of 0 to 4 or 16 to 255 and no two alike.
+/// Document 02, request 4: a scope with one to eight fault parts by number, each of 0 to 5 (5 by request 5) or 16 to 255 and no two alike.
 fn parts_by_number(cases: &mut Cases) {
-    let legal = |value: u32| value <= 4 || (16..=255).contains(&value);
+    let legal = |value: u32| value <= 5 || (16..=255).contains(&value);
     for value in TELLING {
         let number = spell(value);
         let name = format!("fault part for {value}");
@@ -1495,11 +1506,11 @@ fn parts_by_number(cases: &mut Cases) {
     // The body comes before the count, and a part before the next number.
     for (name, bytes, number, place) in [
         ("bad body and bad count", &[14, UNKNOWN, 0][..], 4, 12),
-        ("bad count and bad number", &[14, 0, 9, 5], 5, 13),
-        ("bad number and bad part", &[14, 0, 1, 5, UNKNOWN], 5, 14),
+        ("bad count and bad number", &[14, 0, 9, 6], 5, 13),
+        ("bad number and bad part", &[14, 0, 1, 6, UNKNOWN], 5, 14),
         (
             "bad part and bad number",
-            &[14, 0, 2, 16, UNKNOWN, 5],
+            &[14, 0, 2, 16, UNKNOWN, 6],
             4,
             15,
         ),
@@ -1537,6 +1548,176 @@ fn parts_by_number(cases: &mut Cases) {
         after_receive(&[14, 0, 1, 16, 0, 0]),
         Refused(2, 18),
     );
+}
+
+/// Document 02, request 5: a send to the partner that a variable holds, and a receive that stores whom to reply to.
+fn replies(cases: &mut Cases) {
+    // Four variables, variable 0 for correlation; a receive, and what stands behind it at place 11.
+    let after = |activity: &[u8]| join(&[&[1, 4, 1, 0], THEN, activity, EMPTY]);
+    cases.good("answer", &after(&[17, 0, 63, 2, 0, 0, 63]), 4);
+    cases.good("asking", &after(&[18, 63, 63, 2, 1, 0, 3]), 4);
+    let fits = |fit: bool, place| match fit {
+        true => Accepted(4),
+        false => Refused(5, place),
+    };
+    for value in TELLING {
+        let number = spell(value);
+        let longer = number.len() - 1;
+        // The variable that holds the partner, for correlation or in the tuple too; the operation; the reply partner.
+        for tuple in [&[1, 0][..], &[2, 3, 3], &[4, 0, 1, 2, 3]] {
+            let bytes = after(&join(&[&[17], &number, &[9], tuple, &[5]]));
+            let name = format!("answer to variable {value}, tuple {tuple:?}");
+            cases.add(name, bytes, fits(value < 4, 12));
+            let bytes = after(&join(&[&[17, 1, 9], tuple, &number]));
+            let name = format!("answer with reply partner {value}, tuple {tuple:?}");
+            cases.add(name, bytes, fits(value < 64, 14 + tuple.len()));
+        }
+        let bytes = after(&join(&[&[17, 1], &number, &[1, 0, 0]]));
+        cases.add(
+            format!("answer, operation {value}"),
+            bytes,
+            fits(value < 64, 13),
+        );
+        let bytes = after(&join(&[&[17, 1, 0, 1], &number, &[0]]));
+        cases.add(
+            format!("answer, variable {value}"),
+            bytes,
+            fits(value < 4, 15),
+        );
+        // Partner and operation of a receive; the variable that stores the reply partner.
+        let bytes = after(&join(&[&[18], &number, &[9, 1, 0, 1]]));
+        cases.add(
+            format!("asking, partner {value}"),
+            bytes,
+            fits(value < 64, 12),
+        );
+        let bytes = after(&join(&[&[18, 9], &number, &[1, 0, 1]]));
+        cases.add(
+            format!("asking, operation {value}"),
+            bytes,
+            fits(value < 64, 13),
+        );
+        for tuple in [
+            &[1, 0][..],
+            &[1, 1],
+            &[2, 0, 2],
+            &[3, 3, 0, 2],
+            &[4, 1, 2, 0, 3],
+        ] {
+            let bytes = after(&join(&[&[18, 9, 9], tuple, &number]));
+            let own = tuple[1..].iter().any(|&v| u32::from(v) == value);
+            let legal = (1..4).contains(&value) && !own;
+            let name = format!("asking of {tuple:?}, storing in {value}");
+            cases.add(name, bytes, fits(legal, 14 + tuple.len()));
+            let cut = join(&[&[1, 4, 1, 0], THEN, &[18, 9, 9], tuple, &number]);
+            let answer = match legal {
+                true => Refused(2, 15 + tuple.len() + longer),
+                false => Refused(5, 14 + tuple.len()),
+            };
+            cases.add(
+                format!("asking of {tuple:?}, storing in {value}, then no bytes"),
+                cut,
+                answer,
+            );
+        }
+    }
+    for wrong in MISSPELT {
+        for (activity, place) in [
+            (&[17, 0, 0, 1, 0][..], 16),
+            (&[18, 0, 0, 1, 0], 16),
+            (&[17], 12),
+        ] {
+            cases.add(
+                format!("{activity:?} and {wrong:02x?}"),
+                after(&join(&[activity, wrong])),
+                Refused(3, place),
+            );
+        }
+    }
+    for count in [0, 5, 6] {
+        for code in [17, 18] {
+            cases.add(
+                format!("code {code} with {count} variables"),
+                after(&[code, 0, 0, count, 0, 1, 2, 3, 0, 0]),
+                Refused(5, 14),
+            );
+        }
+    }
+    // A receive names no variable twice, an answer may.
+    cases.add(
+        "asking, twice",
+        after(&[18, 9, 9, 2, 1, 1, 1]),
+        Refused(5, 16),
+    );
+    cases.good("answer, twice", &after(&[17, 1, 9, 3, 1, 1, 1, 0]), 4);
+    // It is a receive: a start form, and one that agrees with the others.
+    cases.good("asking as body", &[1, 2, 1, 0, 18, 3, 5, 1, 0, 1, 0], 2);
+    cases.good(
+        "asking first in flow and scope",
+        &[
+            1, 2, 1, 0, 9, 2, 18, 3, 5, 1, 0, 1, 11, 18, 3, 5, 1, 0, 1, 0, 0, 0,
+        ],
+        7,
+    );
+    cases.add(
+        "answer as body",
+        [1, 2, 1, 0, 17, 0, 5, 1, 0, 1, 0],
+        Refused(7, 4),
+    );
+    cases.good(
+        "asking with the same count",
+        &after(&[18, 3, 5, 1, 1, 2]),
+        4,
+    );
+    cases.add(
+        "asking with another count",
+        after(&[18, 3, 5, 2, 0, 1, 2]),
+        Refused(21, 14),
+    );
+    cases.add(
+        "a receive with another count than one that asks",
+        join(&[
+            &[1, 4, 1, 0, 8, 2, 18, 3, 5, 1, 0, 1],
+            &[2, 3, 5, 2, 0, 1],
+            EMPTY,
+        ]),
+        Refused(21, 15),
+    );
+    cases.good(
+        "answer with another count",
+        &after(&[17, 3, 5, 2, 0, 1, 2]),
+        4,
+    );
+    // Nothing in a part bars them, and no arm has them.
+    cases.good(
+        "asking and answer in fault and undo part",
+        &after(&[11, 0, 18, 9, 9, 1, 1, 2, 17, 2, 9, 1, 1, 63]),
+        7,
+    );
+    cases.add(
+        "one variable, which a receive has",
+        [1, 1, 0, 18, 0, 0, 1, 0, 0, 0],
+        Refused(5, 8),
+    );
+    cases.add(
+        "all other variables for correlation",
+        [1, 2, 1, 1, 18, 0, 0, 1, 0, 1, 0],
+        Refused(5, 9),
+    );
+    for depth in [13, 14, 15] {
+        for activity in [&[17, 0, 0, 1, 0, 0][..], &[18, 0, 0, 1, 0, 1]] {
+            let (nested, inner) = nest(&HOLDERS[3], depth, activity);
+            let answer = match depth {
+                15 => Refused(6, 11 + inner),
+                _ => Accepted(4 + depth),
+            };
+            cases.add(
+                format!("{activity:?} held {depth} deep"),
+                after(&nested),
+                answer,
+            );
+        }
+    }
 }
 
 /// Two troubles in one plan: the first from the left decides.

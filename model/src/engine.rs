@@ -1,7 +1,7 @@
 //! The calls of the engine on a state: load, post, collect, offer, offers, step and run, written from documents 01 and 02 alone.
 
 use crate::order::{Faults, Running, kept_after_close};
-use crate::plan::{CONFLICT, Fault, Kind, Part, Plan, Tuple, UNBOUND};
+use crate::plan::{CONFLICT, Fault, Kind, NO_SUCH_PARTNER, Part, Plan, Sending, Tuple, UNBOUND};
 use crate::reader::{self, Refusal};
 use crate::state::*;
 
@@ -34,6 +34,8 @@ pub struct Taken {
     pub handed: usize,
     /// How many receives or arms raised because another was open for the same thing.
     pub conflicts: usize,
+    /// The fault that its send acted as.
+    pub unsent: Option<Fault>,
 }
 
 /// All that is offered, in order, and what is held.
@@ -47,6 +49,8 @@ pub struct Offer {
 #[derive(Clone, Copy, Debug, Default, PartialEq, Eq)]
 pub struct Held {
     pub sends: usize,
+    /// Of these, to a partner that a variable holds.
+    pub sends_to_held: usize,
     pub closes: usize,
     pub starts: usize,
 }
@@ -131,7 +135,7 @@ fn chosen(plan: &Plan, state: &State, choice: u64) -> Result<Step, u32> {
 /// The tuple of a receive or arm that is open in an order.
 fn open(plan: &Plan, order: &Order, k: usize) -> Option<Tuple> {
     let (tuple, awaits) = match (plan.kind(k), plan.activities[k].part) {
-        (Kind::Receive(tuple), _) => (tuple, k),
+        (Kind::Receive(tuple, _), _) => (tuple, k),
         (Kind::Arm(tuple), Part::Within(pick)) => (tuple, pick),
         _ => return None,
     };
@@ -234,10 +238,10 @@ fn offered(plan: &Plan, state: &State) -> Offer {
 fn acts(plan: &Plan, state: &State, order: &Order, k: usize, held: &mut Held) -> bool {
     let mark = order.marks[k];
     match plan.kind(k) {
-        Kind::Send(tuple) if mark == ACTIVE => {
-            let bound = |&variable: &usize| order.variable(variable).is_some();
-            let full = state.waiting == WAITING as u64 && tuple.variables().iter().all(bound);
+        Kind::Send(sending) if mark == ACTIVE => {
+            let full = state.waiting == WAITING as u64 && sent(order, &sending).is_ok();
             held.sends += usize::from(full);
+            held.sends_to_held += usize::from(full && sending.held_in.is_some());
             !full
         }
         Kind::Scope(handlers) if mark == DONE => {
@@ -285,12 +289,12 @@ fn take(plan: &Plan, state: &mut State, step: Step, tally: &mut Tally) -> Taken 
     }
     // What the step does to the table of messages.
     let mut message = Message::default();
-    let mut unbound = false;
+    let mut unsent = None;
     match plan.kind(k) {
-        Kind::Receive(_) | Kind::Arm(_) => message = state.remove(step.place),
-        Kind::Send(tuple) => match sent(&state.orders[step.slot], &tuple) {
-            Some(message) => state.add(message),
-            None => unbound = true,
+        Kind::Receive(..) | Kind::Arm(_) => message = state.remove(step.place),
+        Kind::Send(sending) => match sent(&state.orders[step.slot], &sending) {
+            Ok(message) => state.add(message),
+            Err(fault) => unsent = Some(fault),
         },
         _ => {}
     }
@@ -298,14 +302,19 @@ fn take(plan: &Plan, state: &mut State, step: Step, tally: &mut Tally) -> Taken 
     let order = &mut state.orders[step.slot];
     let mut running = Running::new(plan, order);
     match plan.kind(k) {
-        Kind::Receive(tuple) | Kind::Arm(tuple) => {
+        Kind::Receive(tuple, _) | Kind::Arm(tuple) => {
             for (&variable, &value) in tuple.variables().iter().zip(&message.values) {
                 running.order.bind(variable, value);
             }
+            if let Kind::Receive(_, Some(variable)) = plan.kind(k) {
+                running.order.bind(variable, message.reply);
+            }
             running.taken(k);
         }
-        Kind::Send(_) if unbound => running.raise(k, UNBOUND),
-        Kind::Send(_) => running.over(k),
+        Kind::Send(_) => match unsent {
+            Some(fault) => running.raise(k, fault),
+            None => running.over(k),
+        },
         _ => running.act(k),
     }
     running.settle_around(k);
@@ -357,6 +366,7 @@ fn take(plan: &Plan, state: &mut State, step: Step, tally: &mut Tally) -> Taken 
         through,
         handed,
         conflicts,
+        unsent,
     }
 }
 
@@ -372,16 +382,22 @@ fn conflict(plan: &Plan, order: &Order) -> Option<usize> {
     })
 }
 
-/// The message that a send adds, where all its variables are bound.
-fn sent(order: &Order, tuple: &Tuple) -> Option<Message> {
+/// The message that a send adds, or the fault that it acts as: that of any unbound variable first.
+fn sent(order: &Order, sending: &Sending) -> Result<Message, Fault> {
+    let held = |variable| order.variable(variable).ok_or(UNBOUND);
+    let tuple = &sending.tuple;
     let mut message = Message {
-        partner: tuple.partner,
+        partner: sending.held_in.map_or(Ok(tuple.partner), held)?,
         operation: tuple.operation,
         count: tuple.count as u32,
         values: [0; 4],
+        reply: sending.reply,
     };
     for (place, &variable) in tuple.variables().iter().enumerate() {
-        message.values[place] = order.variable(variable)?;
+        message.values[place] = held(variable)?;
     }
-    Some(message)
+    if message.partner > 63 {
+        return Err(NO_SUCH_PARTNER);
+    }
+    Ok(message)
 }

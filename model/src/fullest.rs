@@ -14,6 +14,7 @@ fn message(partner: u32, operation: u32, values: &[u32]) -> Message {
         operation,
         count: values.len() as u32,
         values: [0; 4],
+        reply: 0,
     };
     message.values[..values.len()].copy_from_slice(values);
     message
@@ -97,7 +98,10 @@ pub fn sample() -> Vec<Vec<u8>> {
     let mut state = loaded(&plan);
     let mut states = Vec::new();
     let answers = [
-        message(0, 0, &[101, 5, 3]),
+        Message {
+            reply: 10,
+            ..message(5, 0, &[101, 5, 3])
+        },
         message(1, 2, &[101, 5, 1]),
         message(2, 4, &[101]),
         message(3, 7, &[101]),

@@ -133,6 +133,30 @@ impl Sheet {
             self.put(Kind::Code, code);
         }
         self.put(Kind::Partner, partner);
+        self.tuple(operation, variables);
+    }
+
+    /// A send to the partner that a variable holds: also the partner to reply to, behind the variables.
+    pub fn held_send(&mut self, variable: u32, operation: u32, variables: &[u32], reply: u32) {
+        self.put(Kind::Code, 17);
+        self.put(Kind::Variable, variable);
+        self.tuple(operation, variables);
+        self.put(Kind::Partner, reply);
+    }
+
+    /// A receive, and behind its variables the one that stores whom to reply to.
+    pub fn asking_receive(
+        &mut self,
+        partner: u32,
+        operation: u32,
+        variables: &[u32],
+        variable: u32,
+    ) {
+        self.message(Some(18), partner, operation, variables);
+        self.put(Kind::Variable, variable);
+    }
+
+    fn tuple(&mut self, operation: u32, variables: &[u32]) {
         self.put(Kind::Operation, operation);
         self.put(Kind::TupleCount, variables.len() as u32);
         for &variable in variables {
@@ -213,7 +237,7 @@ impl Writer<'_> {
     /// The number of a raise.
     fn fault_number(&mut self) -> u32 {
         if self.slip() {
-            return [0, 4, 5, 15, 256, 257][self.random.below(6)];
+            return [0, 5, 6, 15, 256, 257][self.random.below(6)];
         }
         match self.random.below(8) {
             0 => 16,
@@ -226,7 +250,7 @@ impl Writer<'_> {
     fn part_number(&mut self, before: &[u32]) -> u32 {
         loop {
             let number = match self.random.below(2) {
-                0 => self.random.below(5) as u32,
+                0 => self.random.below(6) as u32,
                 _ => self.fault_number(),
             };
             if !before.contains(&number) || self.slip() {
@@ -312,6 +336,38 @@ impl Writer<'_> {
 
     /// Partner, operation and tuple, after the code if there is one.
     fn message(&mut self, code: Option<u32>, distinct: bool) {
+        let (partner, operation, variables) = self.exchange(distinct);
+        self.sheet.message(code, partner, operation, &variables);
+    }
+
+    /// A receive; one in three stores whom to reply to, where a variable may.
+    fn receive(&mut self) {
+        let (partner, operation, variables) = self.exchange(true);
+        let mut may = self.free.clone();
+        may.retain(|variable| !variables.contains(variable));
+        if self.slip() {
+            may = vec![self.variable()];
+        }
+        if may.is_empty() || self.random.below(3) > 0 {
+            return self.sheet.message(Some(2), partner, operation, &variables);
+        }
+        let variable = may[self.random.below(may.len())];
+        self.sheet
+            .asking_receive(partner, operation, &variables, variable);
+    }
+
+    fn held_send(&mut self) {
+        let (_, operation, variables) = self.exchange(false);
+        let variable = self.variable();
+        let reply = match self.slip() {
+            true => [64, 65, 127, 128][self.random.below(4)],
+            false => self.random.below(64) as u32,
+        };
+        self.sheet.held_send(variable, operation, &variables, reply);
+    }
+
+    /// A partner, an operation and the variables of a tuple.
+    fn exchange(&mut self, distinct: bool) -> (u32, u32, Vec<u32>) {
         let mut partner = self.random.below(64) as u32;
         let mut operation = self.random.below(64) as u32;
         // Now and then a pair, or a partner, that was there before.
@@ -333,7 +389,7 @@ impl Writer<'_> {
                     variables.push(variable);
                 }
             }
-            return self.sheet.message(code, partner, operation, &variables);
+            return (partner, operation, variables);
         }
         let count = self.random.from_to(1, 4);
         for _ in 0..count {
@@ -342,7 +398,7 @@ impl Writer<'_> {
                 variables.push(variable);
             }
         }
-        self.sheet.message(code, partner, operation, &variables);
+        (partner, operation, variables)
     }
 
     /// An activity that holds exactly `count` activities and arms, itself among them.
@@ -360,12 +416,13 @@ impl Writer<'_> {
 
     fn leaf(&mut self, start: bool) {
         if start {
-            return self.message(Some(2), true);
+            return self.receive();
         }
-        let code = self.random.below(7) as u32;
+        let code = self.random.below(8) as u32;
         match code {
             1 => self.message(Some(1), false),
-            2 => self.message(Some(2), true),
+            2 => self.receive(),
+            7 => self.held_send(),
             3 if !self.free.is_empty() => {
                 let free = self.free[self.random.below(self.free.len())];
                 let variable = if self.slip() { self.variable() } else { free };
@@ -652,9 +709,9 @@ pub fn damaged(random: &mut Random) -> Vec<u8> {
         match random.below(11) {
             0 => bytes[at] = random.byte(),
             1 => bytes[at] = bytes[at].wrapping_add(1),
-            2 => bytes[at] = random.below(18) as u8,
+            2 => bytes[at] = random.below(20) as u8,
             3 => bytes.truncate(at),
-            4 => bytes.insert(at, random.below(18) as u8),
+            4 => bytes.insert(at, random.below(20) as u8),
             5 => bytes.insert(at, random.byte()),
             6 => {
                 bytes.remove(at);
@@ -712,8 +769,8 @@ pub fn wild(random: &mut Random) -> Vec<u8> {
         match manner {
             0 | 1 => bytes.push(random.byte()),
             2 => bytes.push(random.below(4) as u8),
-            3 => bytes.push(random.below(17) as u8),
-            _ => bytes.extend(spell(TELLING[random.below(17)])),
+            3 => bytes.push(random.below(19) as u8),
+            _ => bytes.extend(spell(TELLING[random.below(19)])),
         }
     }
     bytes

@@ -1,6 +1,6 @@
 //! The bytes of a state: offsets, sizes, and how many there are at most (data/layout.txt).
 // layout: written by tools/layout
-pub const MARK: &[u8; 8] = b"MOONHAL3";
+pub const MARK: &[u8; 8] = b"MOONHAL4";
 pub const TALLY_STARTED: usize = 8;
 pub const TALLY_WELL: usize = 12;
 pub const TALLY_HANDLED: usize = 16;
@@ -11,15 +11,16 @@ pub const PLAN: usize = 36;
 pub const WAITING: usize = 4132;
 pub const MESSAGES: usize = 4140;
 pub const MESSAGES_MOST: usize = 64;
-pub const ORDERS: usize = 5932;
+pub const ORDERS: usize = 6188;
 pub const ORDERS_MOST: usize = 16;
-pub const STATE: usize = 12492;
+pub const STATE: usize = 12748;
 pub const MESSAGE_PARTNER: usize = 0;
 pub const MESSAGE_OPERATION: usize = 4;
 pub const MESSAGE_COUNT: usize = 8;
 pub const MESSAGE_VALUES: usize = 12;
 pub const MESSAGE_VALUES_MOST: usize = 4;
-pub const MESSAGE: usize = 28;
+pub const MESSAGE_REPLY: usize = 28;
+pub const MESSAGE: usize = 32;
 pub const ORDER_ROOT: usize = 0;
 pub const ORDER_MARKS: usize = 1;
 pub const ORDER_MARKS_MOST: usize = 256;

@@ -108,7 +108,7 @@ impl Writer<'_> {
         if begun.undo && self.random.percent(35) {
             for _ in 0..[1, 2, 2, 3, 8][self.random.below(5)] {
                 let number = match self.random.below(3) {
-                    0 => self.random.below(5),
+                    0 => self.random.below(6),
                     _ => self.number(),
                 };
                 if !begun.numbers.contains(&number) {
@@ -212,13 +212,18 @@ impl Writer<'_> {
         self.list(8, count + 1);
         for _ in 0..count {
             if self.free.is_empty() || self.random.percent(50) {
-                self.message(Some(1), false);
+                self.send();
             } else {
                 self.code(3);
                 let variable = self.free[self.random.below(self.free.len())];
+                // Now and then about the highest partner, which a send may then be for.
+                let value = match self.random.below(4) {
+                    0 => self.random.from_to(62, 65),
+                    _ => count,
+                };
                 self.sheet.put(Kind::Variable, variable);
                 self.sheet.put(Kind::Form, 0);
-                self.sheet.put(Kind::Constant, count as u32);
+                self.sheet.put(Kind::Constant, value as u32);
             }
         }
         if self.random.percent(raises) {
@@ -269,7 +274,7 @@ impl Writer<'_> {
     /// A start form of about this size.
     fn start(&mut self, size: usize, depth: u32) {
         if size < 4 || depth > 6 {
-            return self.message(Some(2), true);
+            return self.receive();
         }
         match self.random.below(10) {
             0..=4 => {
@@ -355,7 +360,7 @@ impl Writer<'_> {
         let count = self.random.from_to(1, 3);
         self.list(10, count);
         for _ in 0..count {
-            self.message(None, true);
+            self.arm();
             self.activity(size / (count + 1), depth + 1, handler);
         }
     }
@@ -363,8 +368,8 @@ impl Writer<'_> {
     fn leaf(&mut self, handler: bool) {
         match self.random.below(100) {
             0..=21 => self.code(0),
-            22..=45 => self.message(Some(1), false),
-            46..=56 => self.message(Some(2), true),
+            22..=45 => self.send(),
+            46..=56 => self.receive(),
             57..=76 if !self.free.is_empty() => {
                 let variable = self.free[self.random.below(self.free.len())];
                 self.code(3);
@@ -374,7 +379,7 @@ impl Writer<'_> {
             77..=78 => self.code(5),
             79..=84 => self.raise(),
             // Handlers raise less.
-            _ if handler => self.message(Some(1), false),
+            _ if handler => self.send(),
             _ => self.raise(),
         }
     }
@@ -405,6 +410,7 @@ impl Writer<'_> {
                 let value = match self.random.below(12) {
                     0 => u32::MAX - self.random.below(2) as u32,
                     1 => self.random.value(),
+                    2 => self.random.from_to(62, 65) as u32,
                     _ => self.random.below(4) as u32,
                 };
                 self.sheet.put(Kind::Form, 0);
@@ -424,8 +430,41 @@ impl Writer<'_> {
         }
     }
 
-    /// Partner, operation and tuple, after the code if there is one.
-    fn message(&mut self, code: Option<u32>, distinct: bool) {
+    /// A send, to a partner of its own or to one that a variable holds.
+    fn send(&mut self) {
+        let (partner, operation, variables) = self.exchange(false);
+        if self.random.percent(60) {
+            return self.sheet.message(Some(1), partner, operation, &variables);
+        }
+        let variable = self.variable();
+        let reply = match self.random.below(3) {
+            0 => self.random.below(64) as u32,
+            _ => partner,
+        };
+        self.sheet.held_send(variable, operation, &variables, reply);
+    }
+
+    /// A receive; about half of them store whom to reply to, where a variable may.
+    fn receive(&mut self) {
+        let (partner, operation, variables) = self.exchange(true);
+        let mut may = self.free.clone();
+        may.retain(|variable| !variables.contains(variable));
+        if may.is_empty() || self.random.percent(50) {
+            return self.sheet.message(Some(2), partner, operation, &variables);
+        }
+        let variable = may[self.random.below(may.len())];
+        self.sheet
+            .asking_receive(partner, operation, &variables, variable);
+    }
+
+    /// An arm's partner, operation and tuple.
+    fn arm(&mut self) {
+        let (partner, operation, variables) = self.exchange(true);
+        self.sheet.message(None, partner, operation, &variables);
+    }
+
+    /// A partner, an operation and the variables of a tuple.
+    fn exchange(&mut self, distinct: bool) -> (u32, u32, Vec<u32>) {
         // Now and then a partner that the plan may never receive on.
         let outward = !distinct && self.random.percent(40);
         let partner = if outward {
@@ -448,9 +487,7 @@ impl Writer<'_> {
                     variables.push(variable);
                 }
             }
-            return self
-                .sheet
-                .message(code, partner as u32, operation as u32, &variables);
+            return (partner as u32, operation as u32, variables);
         }
         for _ in 0..self.random.from_to(1, most) {
             let variable = self.variable();
@@ -458,7 +495,6 @@ impl Writer<'_> {
                 variables.push(variable);
             }
         }
-        self.sheet
-            .message(code, partner as u32, operation as u32, &variables);
+        (partner as u32, operation as u32, variables)
     }
 }

@@ -12,8 +12,13 @@
 use crate::plan::{Fault, Kind, Part, Plan, Scope};
 use crate::state::*;
 
-/// How many faults there were by their numbers: 0 to 4, and 16 to 255 together.
-pub type Faults = [u64; 6];
+/// How many faults there were by their numbers: 0 to 5, and 16 to 255 together.
+pub type Faults = [u64; 7];
+
+/// Where a fault of this number is counted.
+pub fn counted(number: Fault) -> usize {
+    usize::from(number.min(6))
+}
 
 /// An order while a step changes it.
 pub struct Running<'a> {
@@ -45,8 +50,8 @@ impl Running<'_> {
             order,
             end: None,
             fault: None,
-            outward: [0; 6],
-            absorbed: [0; 6],
+            outward: [0; 7],
+            absorbed: [0; 7],
             by_number: 0,
             general: 0,
             undone: 0,
@@ -324,7 +329,7 @@ impl Running<'_> {
                 self.order.cause = number;
             }
         } else {
-            self.absorbed[usize::from(number.min(5))] += 1;
+            self.absorbed[counted(number)] += 1;
         }
         self.settle(scope);
     }
@@ -337,7 +342,7 @@ impl Running<'_> {
                 self.fault = Some(number);
             }
             Some(s) => {
-                self.outward[usize::from(number.min(5))] += 1;
+                self.outward[counted(number)] += 1;
                 self.order.marks[s..self.plan.end(s)].fill(IDLE);
                 self.forget(scope);
                 self.fault(self.plan.activities[s].around, number);

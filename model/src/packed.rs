@@ -1,4 +1,4 @@
-//! The engine over packed states: a state with its tally as 12,492 bytes, and each call as the library's C function of that name answers it.
+//! The engine over packed states: a state with its tally as 12,748 bytes, and each call as the library's C function of that name answers it.
 
 use crate::engine::{self, Step, Taken};
 use crate::layout::{self, MARK, ORDER};
@@ -35,18 +35,20 @@ fn put_numbers(bytes: &mut [u8], numbers: &[u32]) {
 }
 
 pub fn unpack_message(bytes: &[u8]) -> Message {
-    let [partner, operation, count, a, b, c, d] = numbers(bytes);
+    let [partner, operation, count, a, b, c, d, reply] = numbers(bytes);
     Message {
         partner,
         operation,
         count,
         values: [a, b, c, d],
+        reply,
     }
 }
 
 pub fn pack_message(message: &Message, bytes: &mut [u8]) {
     put_numbers(bytes, &[message.partner, message.operation, message.count]);
     put_numbers(&mut bytes[layout::MESSAGE_VALUES..], &message.values);
+    put_numbers(&mut bytes[layout::MESSAGE_REPLY..], &[message.reply]);
 }
 
 fn unpack_order(bytes: &[u8]) -> Order {
@@ -98,8 +100,8 @@ pub fn unpack(bytes: &[u8]) -> Option<(State, Tally)> {
     Some((state, Tally(numbers(&bytes[layout::TALLY_STARTED..]))))
 }
 
-/// Brings a state of any version up to date, as `moonhalyard_upgrade` does. The orders of older ones have no cause, and those of the first have for a
-/// closing its scope alone, which closed for the nearest scope around it.
+/// Brings a state of any version up to date, as `moonhalyard_upgrade` does. The messages of older ones have no reply partner, and get 0. The orders of the
+/// first two have no cause, and those of the first have for a closing its scope alone, which closed for the nearest scope around it.
 pub fn upgrade(old: &[u8], state: &mut [u8]) -> u32 {
     if state.len() != SIZE {
         return 18;
@@ -108,21 +110,33 @@ pub fn upgrade(old: &[u8], state: &mut [u8]) -> u32 {
         state.copy_from_slice(old);
         return 0;
     }
-    let (order, first) = match (old.len(), old.get(..8)) {
-        (11_964, Some(b"MOONHAL1")) => (377, true),
-        (12_476, Some(b"MOONHAL2")) => (409, false),
+    let version = match (old.len(), old.get(..8)) {
+        (11_964, Some(b"MOONHAL1")) => 1,
+        (12_476, Some(b"MOONHAL2")) => 2,
+        (12_492, Some(b"MOONHAL3")) => 3,
         _ => return 17,
     };
-    state[..AT_ORDERS].copy_from_slice(&old[..AT_ORDERS]);
+    let (message, order) = (28, [377, 409, 410][version - 1]);
+    state[..AT_MESSAGES].copy_from_slice(&old[..AT_MESSAGES]);
     state[..8].copy_from_slice(MARK);
+    let (messages, orders) = old[AT_MESSAGES..].split_at(WAITING * message);
+    let now = state[AT_MESSAGES..AT_ORDERS].chunks_exact_mut(MESSAGE);
+    for (from, to) in messages.chunks_exact(message).zip(now) {
+        to[..message].copy_from_slice(from);
+        to[message..].fill(0);
+    }
     let length = usize::try_from(long(&old[layout::PLAN_LENGTH..])).unwrap_or(usize::MAX);
     let bytes = old[AT_PLAN..AT_WAITING].get(..length).unwrap_or(&[]);
     let plan = reader::read(bytes).ok().map(|_| Plan::of(bytes));
-    let orders = old[AT_ORDERS..].chunks_exact(order);
-    for (from, to) in orders.zip(state[AT_ORDERS..].chunks_exact_mut(ORDER)) {
+    let now = state[AT_ORDERS..].chunks_exact_mut(ORDER);
+    for (from, to) in orders.chunks_exact(order).zip(now) {
+        if version == 3 {
+            to.copy_from_slice(from);
+            continue;
+        }
         to[..AT_REMEMBERED].copy_from_slice(&from[..AT_REMEMBERED]);
         let (closings, kept) = from[AT_REMEMBERED..].split_at(order - 8 - AT_REMEMBERED);
-        if first {
+        if version == 1 {
             for (&k, two) in closings.iter().zip(to[AT_REMEMBERED..].chunks_exact_mut(2)) {
                 two[layout::CLOSING_SCOPE] = k;
                 two[layout::CLOSING_PART] = part_around(plan.as_ref(), usize::from(k));

@@ -6,8 +6,9 @@ use crate::reader::{MAX_ACTIVITIES, read_number};
 #[derive(Clone, Copy, Debug, PartialEq, Eq)]
 pub enum Kind {
     Empty,
-    Send(Tuple),
-    Receive(Tuple),
+    Send(Sending),
+    /// With the variable that stores whom to reply to, where one does.
+    Receive(Tuple, Option<usize>),
     /// The variable, and where its expression begins.
     Set(usize, usize),
     /// Its number: 0 for a plain one.
@@ -53,6 +54,15 @@ impl Tuple {
     }
 }
 
+/// A send. Where a variable holds its partner, its tuple has 0 for one.
+#[derive(Clone, Copy, Debug, PartialEq, Eq)]
+pub struct Sending {
+    pub tuple: Tuple,
+    pub held_in: Option<usize>,
+    /// The partner to reply to, which its message carries.
+    pub reply: u32,
+}
+
 /// A scope by its number; `None` is the root, which counts as one.
 pub type Scope = Option<usize>;
 
@@ -84,17 +94,18 @@ pub struct Plan {
     bytes: Vec<u8>,
 }
 
-/// The number of a fault (document 02, request 4): one of these, or that of a raise with a number.
+/// The number of a fault (document 02, requests 4 and 5): one of these, or that of a raise with a number.
 pub type Fault = u8;
 pub const PLAIN: Fault = 0;
 pub const UNBOUND: Fault = 1;
 pub const TOO_LARGE: Fault = 2;
 pub const BELOW_ZERO: Fault = 3;
 pub const CONFLICT: Fault = 4;
+pub const NO_SUCH_PARTNER: Fault = 5;
 
 /// Whether a fault may have this number.
 pub fn is_fault(number: u32) -> bool {
-    number <= u32::from(CONFLICT) || (16..=255).contains(&number)
+    number <= u32::from(NO_SUCH_PARTNER) || (16..=255).contains(&number)
 }
 
 impl Plan {
@@ -267,8 +278,23 @@ impl Reading {
         let mut inside = 0;
         let kind = match code {
             0 => Kind::Empty,
-            1 => Kind::Send(self.tuple()),
-            2 => Kind::Receive(self.received()),
+            1 => Kind::Send(Sending {
+                tuple: self.tuple(),
+                held_in: None,
+                reply: 0,
+            }),
+            17 => {
+                let mut tuple = self.tuple();
+                let held_in = Some(std::mem::take(&mut tuple.partner) as usize);
+                let reply = self.number() as u32;
+                Kind::Send(Sending {
+                    tuple,
+                    held_in,
+                    reply,
+                })
+            }
+            2 => Kind::Receive(self.received(), None),
+            18 => Kind::Receive(self.received(), Some(self.number())),
             3 => Kind::Set(self.number(), self.expression()),
             4 => Kind::Raise(PLAIN),
             13 => Kind::Raise(self.number() as Fault),

@@ -1,4 +1,4 @@
-//! The model of the plan reader: one pass over the bytes, written from document 01 and from requests 4, 8 and 13 of document 02.
+//! The model of the plan reader: one pass over the bytes, written from document 01 and from requests 4, 5, 8 and 13 of document 02.
 
 use crate::plan::is_fault;
 
@@ -209,7 +209,7 @@ impl<N: Numbers> Reading<'_, N> {
     fn activity(&mut self, depth: u32, handler: bool) -> Result<bool, Refusal> {
         let start = self.place;
         let code = self.number()?;
-        if code > 14 {
+        if code > 14 && !matches!(code, 17 | 18) {
             return refuse(4, start);
         }
         if matches!(code, 11 | 12 | 14) && handler {
@@ -222,14 +222,32 @@ impl<N: Numbers> Reading<'_, N> {
         let starts = match code {
             // send
             1 => {
-                let partner = self.within(0, 63)?;
-                self.operation_and_tuple(partner, false)?;
+                self.within(0, 63)?;
+                self.operation_and_tuple(None)?;
                 false
             }
             // receive
             2 => {
                 let partner = self.within(0, 63)?;
-                self.operation_and_tuple(partner, true)?;
+                self.operation_and_tuple(Some(partner))?;
+                true
+            }
+            // send to the partner that a variable holds, with the one to reply to
+            17 => {
+                self.within(0, self.variables - 1)?;
+                self.operation_and_tuple(None)?;
+                self.within(0, 63)?;
+                false
+            }
+            // receive with the variable that stores whom to reply to
+            18 => {
+                let partner = self.within(0, 63)?;
+                let others = self.operation_and_tuple(Some(partner))?;
+                let place = self.place;
+                let variable = self.within(0, self.variables - 1)?;
+                if (self.correlation | others) >> variable & 1 == 1 {
+                    return refuse(5, place);
+                }
                 true
             }
             // set
@@ -325,30 +343,31 @@ impl<N: Numbers> Reading<'_, N> {
         let start = self.place;
         let partner = self.within(0, 63)?;
         let k = self.add(start)?;
-        self.operation_and_tuple(partner, true)?;
+        self.operation_and_tuple(Some(partner))?;
         self.activity(depth + 1, handler)?;
         self.end(k);
         Ok(())
     }
 
-    /// What follows a partner: operation, count and variables; `distinct` in a receive and in an arm.
-    fn operation_and_tuple(&mut self, partner: u32, distinct: bool) -> Result<(), Refusal> {
+    /// What follows a partner: operation, count and variables. A receive and an arm name their partner here, and no variable twice.
+    /// Answers the variables, bit v for variable v.
+    fn operation_and_tuple(&mut self, received: Option<u32>) -> Result<u32, Refusal> {
         let operation = self.within(0, 63)?;
         let place = self.place;
         let count = self.within(1, 4)?;
-        if distinct {
+        if let Some(partner) = received {
             self.ask(partner, operation, count, place);
         }
         let mut seen = 0u32;
         for _ in 0..count {
             let place = self.place;
             let variable = self.within(0, self.variables - 1)?;
-            if distinct && seen >> variable & 1 == 1 {
+            if received.is_some() && seen >> variable & 1 == 1 {
                 return refuse(5, place);
             }
             seen |= 1 << variable;
         }
-        Ok(())
+        Ok(seen)
     }
 
     /// A receive or an arm whose count is at `place`.

@@ -40,7 +40,7 @@ pub fn table_of(bytes: &[u8]) -> Result<Vec<u32>, Refusal> {
         table: Vec::new(),
     };
     let head = cutting.numbers(2);
-    cutting.counted(head);
+    cutting.counted(head, 0);
     cutting.activity();
     cutting.activity();
     Ok(cutting.table)
@@ -76,11 +76,11 @@ impl Cutting<'_> {
         self.table.extend(row(numbers));
     }
 
-    /// A row of these numbers, a count and that many more.
-    fn counted(&mut self, mut numbers: Vec<u32>) {
+    /// A row of these numbers, a count, that many more, and so many last ones.
+    fn counted(&mut self, mut numbers: Vec<u32>, last: usize) {
         let count = self.number();
         numbers.push(count);
-        numbers.extend(self.numbers(count as usize));
+        numbers.extend(self.numbers(count as usize + last));
         self.put(&numbers);
     }
 
@@ -102,7 +102,13 @@ impl Cutting<'_> {
             1 | 2 => {
                 let mut message = vec![code];
                 message.extend(self.numbers(2));
-                self.counted(message);
+                self.counted(message, 0);
+            }
+            // With the reply partner, or the variable that stores it, behind the variables.
+            17 | 18 => {
+                let mut message = vec![code];
+                message.extend(self.numbers(2));
+                self.counted(message, 1);
             }
             3 => {
                 let variable = self.number();
@@ -122,7 +128,7 @@ impl Cutting<'_> {
                 for _ in 0..count {
                     if code == 10 {
                         let arm = self.numbers(2);
-                        self.counted(arm);
+                        self.counted(arm, 0);
                     }
                     self.activity();
                 }
@@ -252,17 +258,40 @@ impl<'a> Rows<'a> {
         Ok(())
     }
 
-    /// Whether operation, count and variables from place `c` on keep their rules; then the row is written.
-    fn exchange(&mut self, row: &[u32], c: usize, once: bool) -> bool {
+    /// The variables, where operation, count and they from place `c` on keep their rules.
+    fn tuple<'r>(&self, row: &'r [u32], c: usize, once: bool) -> Option<&'r [u32]> {
         let count = row[c + 1] as usize;
         if row[c] > 63 || !(1..=4).contains(&count) {
-            return false;
+            return None;
         }
         let some = &row[c + 2..c + 2 + count];
         let twice = (1..count).any(|i| some[..i].contains(&some[i]));
-        some.iter().all(|&v| v < self.variables)
-            && !(once && twice)
-            && self.spell(row, c + 1 + count)
+        (some.iter().all(|&v| v < self.variables) && !(once && twice)).then_some(some)
+    }
+
+    /// Whether operation, count and variables from place `c` on keep their rules; then the row is written.
+    fn exchange(&mut self, row: &[u32], c: usize, once: bool) -> bool {
+        match self.tuple(row, c, once) {
+            None => false,
+            Some(some) => self.spell(row, c + 1 + some.len()),
+        }
+    }
+
+    /// Whether these keep their rules and the one number behind them keeps this; then the row is written.
+    fn exchange_then(
+        &mut self,
+        row: &[u32],
+        c: usize,
+        once: bool,
+        last: impl Fn(&Self, &[u32], u32) -> bool,
+    ) -> bool {
+        match self.tuple(row, c, once) {
+            None => false,
+            Some(some) => {
+                let at = c + 2 + some.len();
+                last(self, some, row[at]) && self.spell(row, at)
+            }
+        }
     }
 
     fn expression(&mut self, level: u32) -> Result<(), Refusal> {
@@ -293,7 +322,7 @@ impl<'a> Rows<'a> {
     fn activity(&mut self, level: u32, handler: bool) -> Result<bool, Refusal> {
         let (at, row) = self.row()?;
         let code = row[1];
-        if code > 14 {
+        if code > 14 && code != 17 && code != 18 {
             return refuse(4, at);
         }
         let scope = matches!(code, 11 | 12 | 14);
@@ -318,12 +347,24 @@ impl<'a> Rows<'a> {
             }
             8..=10 => (1..=most).contains(&row[2]) && self.spell(row, 2),
             13 => (16..=255).contains(&row[2]) && self.spell(row, 2),
+            17 => {
+                row[2] < self.variables
+                    && self.exchange_then(row, 3, false, |_, _, reply| reply < 64)
+            }
+            18 => {
+                let stores = |rows: &Self, others: &[u32], variable: u32| {
+                    variable < rows.variables
+                        && !rows.correlation.contains(&variable)
+                        && !others.contains(&variable)
+                };
+                row[2] < 64 && self.exchange_then(row, 3, true, stores)
+            }
             _ => self.spell(row, 1),
         };
         if !legal {
             return refuse(5, at);
         }
-        if code == 2 {
+        if let 2 | 18 = code {
             self.asked.push((at, [row[2], row[3], row[4]]));
         }
         if let 3 | 6 | 7 = code {
@@ -345,7 +386,7 @@ impl<'a> Rows<'a> {
             starts.push(self.activity(level + 1, handler || scope && order > 0)?);
         }
         Ok(match code {
-            2 | 10 => true,
+            2 | 10 | 18 => true,
             8 | 11 | 12 => starts[0],
             9 => starts.iter().all(|&start| start),
             _ => false,
@@ -506,13 +547,63 @@ mod tests {
             // The body comes before it.
             refused(&[&[14], &[15], count, &[16], &[4], &[3], &[0]], 4, 4);
         }
-        for number in [&[16][..], &[5], &[256], &[3, 0], &[]] {
+        for number in [&[16][..], &[6], &[256], &[3, 0], &[]] {
             refused(&[&[14], &[0], &[2], &[16], &[4], number, &[0]], 5, 8);
             // A part comes before the number behind it.
             refused(&[&[14], &[0], &[2], &[16], &[15], number, &[0]], 4, 7);
         }
         refused(&[&[14, 2], &[0], &[2], &[16], &[4], &[3], &[0]], 5, 3);
         refused(&[&[14], &[0], &[2], &[16], &[12], &[3], &[0]], 8, 7);
+    }
+
+    #[test]
+    fn whom_to_reply_to() {
+        // Variable 2 of four is for correlation.
+        let plan = |asking: &[u32], answer: &[u32]| -> Vec<u32> {
+            let rows: [&[u32]; 5] = [&[1, 4, 1, 2], &[8, 2], asking, answer, &[0]];
+            rows.iter().flat_map(|numbers| row(numbers)).collect()
+        };
+        let (asking, answer) = (&[18, 3, 5, 2, 0, 2, 1][..], &[17, 1, 9, 2, 2, 2, 63][..]);
+        let bytes = [
+            1, 4, 1, 2, 8, 2, 18, 3, 5, 2, 0, 2, 1, 17, 1, 9, 2, 2, 2, 63, 0,
+        ];
+        assert_eq!(table_of(&bytes), Ok(plan(asking, answer)));
+        let mut out = [9; 21];
+        assert_eq!(write(&plan(asking, answer), &mut out), Ok(21));
+        assert_eq!(out, bytes);
+        let refused = |asking: &[u32], answer: &[u32], number, place| {
+            let table = plan(asking, answer);
+            assert_eq!(write(&table, &mut []), Err(Refusal { number, place }));
+        };
+        for wrong in [
+            &[18, 64, 5, 2, 0, 2, 1][..],
+            &[18, 3, 64, 2, 0, 2, 1],
+            &[18, 3, 5, 2, 0, 0, 1],
+            // For correlation, among the others, no variable, none, and one more.
+            &[18, 3, 5, 1, 0, 2],
+            &[18, 3, 5, 2, 0, 1, 1],
+            &[18, 3, 5, 2, 0, 2, 4],
+            &[18, 3, 5, 2, 0, 2],
+            &[18, 3, 5, 2, 0, 2, 1, 0],
+            &[2, 3, 5, 2, 0, 2, 1],
+        ] {
+            refused(wrong, answer, 5, 2);
+        }
+        for wrong in [
+            &[17, 4, 9, 2, 2, 2, 63][..],
+            &[17, 1, 64, 2, 2, 2, 63],
+            &[17, 1, 9, 5, 0, 0, 0, 0, 0, 63],
+            &[17, 1, 9, 2, 2, 4, 63],
+            &[17, 1, 9, 2, 2, 2, 64],
+            &[17, 1, 9, 2, 2, 2],
+            &[17, 1, 9, 2, 2, 2, 63, 0],
+            &[1, 1, 9, 2, 2, 2, 63],
+        ] {
+            refused(asking, wrong, 5, 3);
+        }
+        refused(answer, asking, 7, 1);
+        refused(asking, &[18, 3, 5, 1, 0, 1], 21, 3);
+        refused(asking, &[16, 1, 9, 2, 2, 2, 63], 4, 3);
     }
 
     #[test]

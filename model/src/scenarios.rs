@@ -59,7 +59,7 @@ fn joined<T: ToString>(numbers: impl IntoIterator<Item = T>) -> String {
 fn written(message: &Message) -> String {
     let head = [message.partner, message.operation, message.count];
     let values = &message.values[..message.count as usize];
-    joined(head.iter().chain(values))
+    joined(head.iter().chain(values).chain([&message.reply]))
 }
 
 /// Makes the call that the words spell; `plan` are the bytes of the last plan. Answers what stands behind '='.
@@ -87,15 +87,18 @@ fn call_of(words: &[&str], plan: &mut Vec<u8>, state: &mut State, tally: &mut Ta
             },
         },
         "post" => {
+            let reply = words.iter().position(|&word| word == "reply");
+            let end = reply.unwrap_or(words.len());
             let mut values = [0; 4];
-            for at in 3..words.len().min(7) {
+            for at in 3..end.min(7) {
                 values[at - 3] = number(at) as u32;
             }
             let message = Message {
                 partner: number(1) as u32,
                 operation: number(2) as u32,
-                count: words.len() as u32 - 3,
+                count: end as u32 - 3,
                 values,
+                reply: reply.map_or(0, |at| number(at + 1) as u32),
             };
             engine::post(state, message).err().unwrap_or(0).to_string()
         }

@@ -76,7 +76,15 @@ fn fault(random: &mut Random) -> Fault {
     match random.below(4) {
         0 => random.from_to(16, 255) as Fault,
         1 => [16, 255][random.below(2)],
-        _ => random.below(5) as Fault,
+        _ => random.below(6) as Fault,
+    }
+}
+
+/// What a variable holds: most often a small number, now and then about the highest partner.
+fn some_value(random: &mut Random) -> u32 {
+    match random.below(8) {
+        0 => random.from_to(62, 65) as u32,
+        _ => random.below(4) as u32,
     }
 }
 
@@ -102,7 +110,7 @@ fn touch(random: &mut Random, plan: &Plan, order: &mut Order) {
         1 => {
             let variable = random.below(16);
             order.bound[variable] ^= 1;
-            order.values[variable] = random.below(3) as u32;
+            order.values[variable] = some_value(random);
         }
         2 | 3 => remember(random, plan, order),
         _ => {
@@ -128,7 +136,7 @@ fn wild(random: &mut Random, plan: &Plan, order: &mut Order, density: usize) {
     }
     for variable in 0..16 {
         order.bound[variable] = u8::from(random.percent(70));
-        order.values[variable] = random.below(4) as u32;
+        order.values[variable] = some_value(random);
     }
     remember(random, plan, order);
     if random.percent(5) {
@@ -199,6 +207,7 @@ fn message(random: &mut Random, plan: &Plan) -> Message {
         operation: random.below(2) as u32,
         count: random.from_to(1, 2) as u32,
         values: [value(random), value(random), 0, 0],
+        reply: random.below(64) as u32,
     }
     .in_reach()
 }
@@ -216,7 +225,7 @@ fn beyond(random: &mut Random, state: &mut State) {
     match random.below(11) {
         0 => order.root = [2, 3, 7, 8, 9, 255][random.below(6)],
         // On both sides of the limit.
-        10 => order.cause = [4, 5, 6, 14, 15, 16][random.below(6)],
+        10 => order.cause = [5, 6, 7, 14, 15, 16][random.below(6)],
         // On both sides of the limit: choices beside what has none.
         1 => {
             let marks = [
@@ -237,10 +246,11 @@ fn beyond(random: &mut Random, state: &mut State) {
             state.waiting = state.waiting.clamp(1, WAITING as u64);
             let place = random.below(state.waiting as usize);
             let message = &mut state.messages[place];
-            match random.below(4) {
+            match random.below(5) {
                 0 => message.partner = random.from_to(63, 64) as u32,
                 1 => message.operation = random.from_to(63, 64) as u32,
                 2 => message.count = random.from_to(4, 5) as u32 % 5,
+                3 => message.reply = random.from_to(63, 64) as u32,
                 _ => message.values[3] = 1,
             }
         }

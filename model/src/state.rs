@@ -46,12 +46,14 @@ pub struct Message {
     pub operation: u32,
     pub count: u32,
     pub values: [u32; 4],
+    /// The partner to reply to.
+    pub reply: u32,
 }
 
 impl Message {
-    /// Whether partner, operation and count keep their rule.
+    /// Whether partner, operation, count and reply partner keep their rule.
     pub fn in_rule(&self) -> bool {
-        self.partner < 64 && self.operation < 64 && (1..=4).contains(&self.count)
+        self.partner < 64 && self.operation < 64 && (1..=4).contains(&self.count) && self.reply < 64
     }
 
     /// With places beyond the count made 0.
@@ -111,7 +113,8 @@ impl Order {
     }
 
     fn in_limits(&self) -> bool {
-        (matches!(self.root, IDLE | ACTIVE) || matches!(bare(self.root), FAULTED | UNDOING | HANDLING))
+        (matches!(self.root, IDLE | ACTIVE)
+            || matches!(bare(self.root), FAULTED | UNDOING | HANDLING))
             && self.marks.iter().all(|&mark| is_mark(mark))
             && self.bound.iter().all(|&bound| bound <= 1)
             && self.kept <= REMEMBERED as u64

@@ -321,48 +321,89 @@ pub fn expression_of(text: &str) -> Option<Exp> {
     }
 }
 
-/// `partner P, operation O: V, ..` to the end of the line.
-fn exchange(names: &Names, tokens: &[Token], front: &[u32]) -> Option<Vec<u32>> {
+/// Whom a message is for or from, and behind its variables whom to reply to.
+#[derive(Clone, Copy, PartialEq, Eq)]
+enum With {
+    /// `partner P`, and nothing of a reply.
+    Nothing,
+    /// `the partner in V`, and `with reply to partner P`, which may be left out: then it is 0.
+    Held,
+    /// `partner P`, and `with reply to into V`, which may be left out: then it is a receive of code 2.
+    Stored,
+}
+
+/// A variable of a message, marked or not, and what follows.
+fn member<'a, 't>(names: &Names, tokens: &'t [Token<'a>]) -> Option<(u32, &'t [Token<'a>])> {
+    let [Word(word), rest @ ..] = tokens else {
+        return None;
+    };
+    let variable = names.variable(word)?;
+    let [Mark(b'('), Word(b"correlation"), Mark(b')'), behind @ ..] = rest else {
+        return Some((variable, rest));
+    };
+    let declared = names.variables.get(variable as usize);
+    declared?.1.then_some((variable, behind))
+}
+
+/// What stands behind the variables: the partner to reply to, or the variable that stores it.
+fn reply(names: &Names, tokens: &[Token], with: With) -> Option<u32> {
+    let [Word(b"with"), Word(b"reply"), Word(b"to"), rest @ ..] = tokens else {
+        return None;
+    };
+    match (with, rest) {
+        (With::Held, [Word(b"partner"), Word(word)]) => Names::numbered(&names.partners, word),
+        (With::Stored, [Word(b"into"), rest @ ..]) => match member(names, rest)? {
+            (variable, []) => Some(variable),
+            _ => None,
+        },
+        _ => None,
+    }
+}
+
+/// `partner P, operation O: V, ..` or, behind `the`, `partner in V, operation O: V, ..`, and a reply, to the end of the line: the numbers without the code,
+/// and whether the last is a reply's.
+fn exchange(names: &Names, tokens: &[Token], with: With) -> Option<(Vec<u32>, bool)> {
+    let (whom, rest) = match (with, tokens) {
+        (With::Held, [Word(b"partner"), Word(b"in"), rest @ ..]) => member(names, rest)?,
+        (With::Nothing | With::Stored, [Word(b"partner"), Word(partner), rest @ ..]) => {
+            (Names::numbered(&names.partners, partner)?, rest)
+        }
+        _ => return None,
+    };
     let [
-        Word(b"partner"),
-        Word(partner),
         Mark(b','),
         Word(b"operation"),
         Word(operation),
         Mark(b':'),
         rest @ ..,
-    ] = tokens
+    ] = rest
     else {
         return None;
     };
-    let mut variables = Vec::new();
-    let mut rest = rest;
-    loop {
-        let [Word(word), behind @ ..] = rest else {
-            return None;
-        };
-        let variable = names.variable(word)?;
+    let operation = Names::numbered(&names.operations, operation)?;
+    let (first, mut rest) = member(names, rest)?;
+    let mut variables = vec![first];
+    while let [Mark(b','), behind @ ..] = rest {
+        let (variable, behind) = member(names, behind)?;
         variables.push(variable);
         rest = behind;
-        if let [Mark(b'('), Word(b"correlation"), Mark(b')'), behind @ ..] = rest {
-            let declared = names.variables.get(variable as usize);
-            if !declared.is_some_and(|(_, marked)| *marked) {
-                return None;
-            }
-            rest = behind;
-        }
-        match rest {
-            [] => break,
-            [Mark(b','), behind @ ..] => rest = behind,
-            _ => return None,
-        }
     }
-    let mut numbers = front.to_vec();
-    numbers.push(Names::numbered(&names.partners, partner)?);
-    numbers.push(Names::numbered(&names.operations, operation)?);
-    numbers.push(variables.len() as u32);
+    let mut numbers = vec![whom, operation, variables.len() as u32];
     numbers.extend(variables.iter().take(14));
-    Some(numbers)
+    let told = match (with, rest) {
+        (With::Held, []) => Some(0),
+        (_, []) => None,
+        _ => Some(reply(names, rest, with)?),
+    };
+    numbers.extend(told);
+    Some((numbers, told.is_some()))
+}
+
+/// A row of a message, behind its code.
+fn message(code: u32, numbers: Vec<u32>) -> Option<(u32, Vec<Vec<u32>>)> {
+    let mut row = vec![code];
+    row.extend(numbers);
+    Some((code, vec![row]))
 }
 
 /// The kinds are the codes; an arm is 255, the root 256. A scope is 12 until an undo part stands in it, or one that is for a number.
@@ -383,9 +424,15 @@ fn activity(names: &Names, tokens: &[Token]) -> Option<(u32, Vec<Vec<u32>>)> {
         }
     };
     match tokens {
-        [Word(b"send"), Word(b"to"), rest @ ..] => Some((1, vec![exchange(names, rest, &[1])?])),
+        [Word(b"send"), Word(b"to"), Word(b"the"), rest @ ..] => {
+            message(17, exchange(names, rest, With::Held)?.0)
+        }
+        [Word(b"send"), Word(b"to"), rest @ ..] => {
+            message(1, exchange(names, rest, With::Nothing)?.0)
+        }
         [Word(b"receive"), Word(b"from"), rest @ ..] => {
-            Some((2, vec![exchange(names, rest, &[2])?]))
+            let (numbers, stored) = exchange(names, rest, With::Stored)?;
+            message(if stored { 18 } else { 2 }, numbers)
         }
         [
             Word(b"arm"),
@@ -393,7 +440,7 @@ fn activity(names: &Names, tokens: &[Token]) -> Option<(u32, Vec<Vec<u32>>)> {
             Word(b"receive"),
             Word(b"from"),
             rest @ ..,
-        ] => Some((ARM, vec![exchange(names, rest, &[])?])),
+        ] => Some((ARM, vec![exchange(names, rest, With::Nothing)?.0])),
         [Word(b"set"), Word(word), Word(b"to"), rest @ ..] => {
             judged(3, vec![3, names.variable(word)?], rest)
         }
@@ -616,7 +663,10 @@ fn names_fault(tokens: &[Token]) -> bool {
 /// Whether a line is a declaration, right or wrong.
 fn is_declaration(tokens: &[Token]) -> bool {
     match tokens {
-        [Word(b"variable" | b"partner" | b"operation" | b"constant"), ..] => true,
+        [
+            Word(b"variable" | b"partner" | b"operation" | b"constant"),
+            ..,
+        ] => true,
         _ => names_fault(tokens),
     }
 }
@@ -674,7 +724,7 @@ pub fn read(text: &[u8]) -> Result<Vec<u8>, Wrong> {
 
 #[cfg(test)]
 mod tests {
-    use super::expression_of;
+    use super::{Wrong, expression_of, read};
 
     /// What a spelling must be, by the two values.
     type Meant = fn(u32, u32) -> bool;
@@ -707,6 +757,86 @@ mod tests {
                     assert_eq!(e.value(&[a, b]), wanted, "{text} of {a} and {b}");
                 }
             }
+        }
+    }
+
+    /// A receive of v0 to v3, and this line behind it.
+    fn behind(line: &str) -> Result<Vec<u8>, Wrong> {
+        let text = format!(
+            "variable n (correlation)\nvariable v1\nvariable whom\nvariable v3\npartner 7 maker\nsequence\n  receive from partner 0, operation 0: n, v1, whom\n  {line}\nempty\n"
+        );
+        read(text.as_bytes())
+    }
+
+    #[test]
+    fn replies_are_read_and_go_by_their_rules() {
+        let front = [1, 4, 1, 0, 8, 2, 2, 0, 0, 3, 0, 1, 2];
+        let told: [(&str, &[u8]); 9] = [
+            (
+                "send to the partner in whom, operation 5: n, v1 with reply to partner maker",
+                &[17, 2, 5, 2, 0, 1, 7],
+            ),
+            (
+                "send to the partner in v1, operation 5: v1 with reply to partner 63",
+                &[17, 1, 5, 1, 1, 63],
+            ),
+            (
+                "send to the partner in n (correlation), operation 5: n",
+                &[17, 0, 5, 1, 0, 0],
+            ),
+            (
+                "send to the partner in n, operation 5: n (correlation) with reply to partner 0",
+                &[17, 0, 5, 1, 0, 0],
+            ),
+            (
+                "receive from partner maker, operation 6: n, v1 with reply to into whom",
+                &[18, 7, 6, 2, 0, 1, 2],
+            ),
+            (
+                "receive from partner 7, operation 6: n with  reply to into v3 # why",
+                &[18, 7, 6, 1, 0, 3],
+            ),
+            ("receive from partner 7, operation 6: n", &[2, 7, 6, 1, 0]),
+            ("send to partner 7, operation 6: n", &[1, 7, 6, 1, 0]),
+            ("raise 255", &[13, 255, 1]),
+        ];
+        for (line, row) in told {
+            let bytes = [&front[..], row, &[0]].concat();
+            assert_eq!(behind(line), Ok(bytes), "{line}");
+        }
+        let refused = [
+            "send to the partner in v4, operation 5: n",
+            "send to the partner in whom, operation 5: n with reply to partner 64",
+            "receive from partner 7, operation 6: n with reply to into n",
+            "receive from partner 7, operation 6: n with reply to into n (correlation)",
+            "receive from partner 7, operation 6: n, v1 with reply to into v1",
+            "receive from partner 7, operation 6: n with reply to into v4",
+        ];
+        for line in refused {
+            assert_eq!(behind(line), Err(Wrong::Refused(5, 8)), "{line}");
+        }
+        let wrong = [
+            "send to partner 7, operation 6: n with reply to partner 3",
+            "send to partner in whom, operation 6: n",
+            "send to the partner whom, operation 6: n",
+            "send to the partner in 7, operation 6: n",
+            "send to the partner in maker, operation 6: n",
+            "send to the partner in whom operation 6: n",
+            "send to the partner in whom, operation 6: n, with reply to partner 3",
+            "send to the partner in whom, operation 6: n with reply to 3",
+            "send to the partner in whom, operation 6: n with reply to partner whom",
+            "send to the partner in whom, operation 6: n with reply to into v3",
+            "send to the partner in whom, operation 6: n with reply to partner 3, 4",
+            "receive from the partner in whom, operation 6: n",
+            "receive from partner 7, operation 6: n with reply to partner 3",
+            "receive from partner 7, operation 6: n with reply into v3",
+            "receive from partner 7, operation 6: n with reply to into",
+            "receive from partner 7, operation 6: n with reply to into v3, v1",
+            "receive from partner 7, operation 6: n with reply to into v3 (correlation)",
+            "receive from partner 7, operation 6: with reply to into v3",
+        ];
+        for line in wrong {
+            assert_eq!(behind(line), Err(Wrong::Line(8)), "{line}");
         }
     }
 }

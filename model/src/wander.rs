@@ -2,13 +2,14 @@
 
 use crate::calls::{self, Call};
 use crate::comparison::Comparison;
-use crate::engine::{self, Offer, Step};
+use crate::engine::{self, Offer, Step, Taken};
 use crate::generate::{self, Random};
 use crate::lively;
+use crate::order::{Faults, counted};
 use crate::packed::{self, SIZE};
-use crate::plan::{Kind, Plan, Tuple};
+use crate::plan::{Kind, NO_SUCH_PARTNER, Plan, Sending, Tuple};
 use crate::scramble;
-use crate::state::{End, Message, REMEMBERED, State, Tally, bare};
+use crate::state::{End, Message, REMEMBERED, State, Tally, WAITING, bare};
 
 /// How often things were seen.
 #[derive(Default)]
@@ -29,15 +30,24 @@ pub struct Seen {
     /// Receives and arms that raised because another was open for the same thing, and steps with several of them.
     pub conflicts: u64,
     pub many_conflicts: u64,
-    /// Orders that ended handled, and failed, by the number of the fault: 0 to 4, and one of 16 to 255.
-    pub handled: [u64; 6],
-    pub failed: [u64; 6],
+    /// Orders that ended handled, and failed, by the number of the fault.
+    pub handled: Faults,
+    pub failed: Faults,
     /// Faults out of a part of an inner scope, and faults that were absorbed, by their numbers.
-    pub outward: [u64; 6],
-    pub absorbed: [u64; 6],
+    pub outward: Faults,
+    pub absorbed: Faults,
     /// Fault parts by number that were begun, and general ones of scopes that have some.
     pub by_number: u64,
     pub general: u64,
+    /// Steps of sends to a partner that a variable holds: sent, of an unbound variable, of a partner above 63, and of one while 64 messages wait; and held.
+    pub answered: u64,
+    pub answers_unbound: u64,
+    pub no_such_partner: u64,
+    pub no_such_partner_full: u64,
+    pub held_answers: u64,
+    /// Receives that stored whom to reply to, and those that stored another than 0.
+    pub asked: u64,
+    pub asked_by: u64,
     pub taken: u64,
     /// Scopes by their mark, in the order of each step taken in a run.
     pub scopes: [u64; 9],
@@ -118,7 +128,7 @@ impl Wander {
         self.plan = Plan::of(&bytes);
         self.received.clear();
         for activity in &self.plan.activities {
-            if let Kind::Receive(tuple) | Kind::Arm(tuple) = activity.kind {
+            if let Kind::Receive(tuple, _) | Kind::Arm(tuple) = activity.kind {
                 self.received.push(tuple);
             }
         }
@@ -209,16 +219,21 @@ impl Wander {
     fn step(&mut self) {
         let offer = self.offered();
         self.seen.held_sends += u64::from(offer.held.sends > 0);
+        self.seen.held_answers += u64::from(offer.held.sends_to_held > 0);
         self.seen.held_closes += u64::from(offer.held.closes > 0);
         self.seen.held_starts += u64::from(offer.held.starts > 0);
         if offer.steps.is_empty() && !offer.held.any() && self.random.percent(60) {
             return self.post();
         }
         let choice = self.choice(&offer);
+        let before = self.state();
         let told = self.comparison.make(Call::Step(choice));
         self.refused(told.answer >> 32 & 0xFF);
         if let Some(taken) = told.taken {
             self.scopes(taken.step.slot);
+            if let Some((state, _)) = before {
+                self.replies(&taken, &state);
+            }
             self.seen.taken += 1;
             self.seen.undone += taken.undone as u64;
             self.seen.through += taken.through as u64;
@@ -238,14 +253,36 @@ impl Wander {
                 _ => None,
             };
             if let (Some(by), Some(fault)) = (ended, taken.fault) {
-                by[usize::from(fault.min(5))] += 1;
+                by[counted(fault)] += 1;
             }
             self.seen.by_number += taken.by_number as u64;
             self.seen.general += taken.general as u64;
-            for number in 0..6 {
+            for number in 0..taken.outward.len() {
                 self.seen.outward[number] += taken.outward[number];
                 self.seen.absorbed[number] += taken.absorbed[number];
             }
+        }
+    }
+
+    /// What a step did with whom to reply to, given the state before it.
+    fn replies(&mut self, taken: &Taken, before: &State) {
+        match self.plan.kind(taken.step.activity) {
+            Kind::Receive(_, Some(_)) => {
+                self.seen.asked += 1;
+                let reply = before.messages[taken.step.place].reply;
+                self.seen.asked_by += u64::from(reply > 0);
+            }
+            Kind::Send(Sending {
+                held_in: Some(_), ..
+            }) => match taken.unsent {
+                None => self.seen.answered += 1,
+                Some(NO_SUCH_PARTNER) => {
+                    self.seen.no_such_partner += 1;
+                    self.seen.no_such_partner_full += u64::from(before.waiting == WAITING as u64);
+                }
+                Some(_) => self.seen.answers_unbound += 1,
+            },
+            _ => {}
         }
     }
 
@@ -274,9 +311,9 @@ impl Wander {
 
     fn collect(&mut self) {
         let room = match self.random.below(20) {
-            0 => self.random.below(28),
-            1 => 40,
-            _ => 28,
+            0 => self.random.below(packed::MESSAGE),
+            1 => calls::MESSAGE,
+            _ => packed::MESSAGE,
         };
         let answer = self.comparison.make(Call::Collect(room)).answer;
         self.refused(answer);
@@ -303,14 +340,22 @@ impl Wander {
             *value = match self.random.below(40) {
                 0 => u32::MAX,
                 1 => self.random.value(),
+                2..=4 => self.random.from_to(62, 65) as u32,
                 _ => self.random.below(high) as u32,
             };
         }
+        // Whom to reply to: most often one that is told apart by few values.
+        message.reply = match self.random.below(4) {
+            0 => 0,
+            1 => self.random.below(64) as u32,
+            _ => self.random.below(high + 1) as u32,
+        };
         // Now and then against its rule.
         match self.random.below(60) {
             0 => message.partner = [64, 65, u32::MAX, 1 << 31][self.random.below(4)],
             1 => message.operation = [64, 65, u32::MAX, 256][self.random.below(4)],
             2 => message.count = [0, 5, 6, u32::MAX, 257][self.random.below(5)],
+            3 => message.reply = [64, 65, u32::MAX, 1 << 16][self.random.below(4)],
             _ => {}
         }
         let answer = self.comparison.make(Call::Post(message)).answer;
@@ -323,7 +368,7 @@ impl Wander {
         let call = match self.random.below(7) {
             0 => Call::Load(self.bytes.clone()),
             1 => Call::Post(Message::default()),
-            2 => Call::Collect(28),
+            2 => Call::Collect(packed::MESSAGE),
             3 => Call::Offer(0),
             4 => Call::Offers,
             5 => Call::Step(0),

@@ -23,7 +23,7 @@ post 0 6 8 2 = 0
 step 0 = 10
 post 0 6 7 2 = 0
 step 0 = 0 0 2 1 1 -
-waiting = 0 6 2 8 2
+waiting = 0 6 2 8 2 0
 # scenario: plan C
 plan 010100080402000001000b000001000101000b000001000201000400 = 0 12
 post 0 0 5 = 0
@@ -33,12 +33,12 @@ step 0 = 0 0 6 0 0 -
 step 0 = 0 0 10 0 0 -
 step 0 = 0 0 9 0 0 -
 step 0 = 0 0 5 0 2 0
-waiting = 0 2 1 5 | 0 1 1 5
+waiting = 0 2 1 5 0 | 0 1 1 5 0
 # scenario: a scope that closes three times in a repeat is undone three times
 plan 01020008040200000100030100030705000001010802030103010100010b000001090101010400 = 0 12
 post 0 0 5 = 0
 run 99 0 0 0 0 0 0 0 0 0 0 0 0 0 0 0 0 0 0 0 0 0 0 = 16 10
-waiting = 9 1 1 0 | 9 1 1 0 | 9 1 1 0
+waiting = 9 1 1 0 0 | 9 1 1 0 0 | 9 1 1 0 0
 tally = 1 0 1 0 0
 ";
 
@@ -54,7 +54,7 @@ fn plays(text: &str, scenarios: usize) {
 
 #[test]
 fn every_scenario() {
-    plays(TEXT, 80);
+    plays(TEXT, 120);
 }
 
 #[test]
@@ -64,7 +64,7 @@ fn every_scenario_of_held_steps() {
 
 #[test]
 fn every_scenario_by_hand() {
-    plays(HAND, 42);
+    plays(HAND, 57);
 }
 
 #[test]
@@ -146,6 +146,64 @@ step 0 = 0 0 2 0 2 3
 #[test]
 fn which_fault_it_was() {
     plays(NUMBERS, 8);
+}
+
+/// Document 02, request 5: an order that answers whoever asked.
+const REPLIES: &str =
+    "# scenario: the variable that stores the reply partner is overwritten by each
+plan 01030008031200000100011200000100011101010200010900 = 0 5
+post 0 0 5 reply 63 = 0
+post 0 0 6 reply 0 = 0
+run 9 0 0 = 2 0
+step 0 = 0 0 3 0 1 -
+waiting = 0 1 2 6 0 9
+# scenario: the partner is a variable for correlation, and in the tuple too
+plan 010101000802020000010011000101003f00 = 0 4
+post 0 0 62 reply 1 = 0
+run 9 0 0 = 2 0
+waiting = 62 1 1 62 63
+collect = 0 62 1 1 62 63
+post 0 0 64 = 0
+step 0 = 0 0 1 0 0 -
+step 0 = 0 0 2 0 2 5
+# scenario: an answer that the plan itself takes, with the reply partner that it carries
+plan 010300080402000002000111010101000c12030101000211020001000000 = 0 6
+post 0 0 7 3 = 0
+run 9 0 0 = 2 0
+waiting = 3 1 1 7 12
+collect = 15
+run 9 0 0 = 2 0
+waiting = 12 0 1 7 0
+collect = 0 12 0 1 7 0
+tally = 1 1 0 0 0
+";
+
+#[test]
+fn whom_to_reply_to() {
+    plays(REPLIES, 3);
+}
+
+#[test]
+fn a_reply_partner_is_limited() {
+    // 17 limits it, in a message that waits and in no other.
+    let mut state = vec![0; packed::SIZE];
+    let plan = [1, 2, 0, 18, 0, 0, 1, 0, 1, 0];
+    assert_eq!(packed::load(&plan, &mut state), 0);
+    let mut message = model::state::Message {
+        count: 1,
+        reply: 64,
+        ..Default::default()
+    };
+    assert_eq!(packed::post(&mut state, message), 13);
+    message.reply = 63;
+    assert_eq!(packed::post(&mut state, message), 0);
+    let reply = |place| model::layout::MESSAGES + place * packed::MESSAGE + 28;
+    assert_eq!(state[reply(0)], 63);
+    for (place, answer) in [(0, 17 << 40), (1, 1)] {
+        let mut other = state.clone();
+        other[reply(place)] = 64;
+        assert_eq!(packed::offers(&other), answer);
+    }
 }
 
 /// A scope whose repeat closes an inner one so often, then a receive.
@@ -238,7 +296,7 @@ fn the_number_that_the_root_faulted_with() {
     assert_eq!(state[at], 200);
     // It is answered as it stands there, and 17 limits it, in a free slot too.
     for cause in 0..=255u8 {
-        let legal = cause < 5 || cause > 15;
+        let legal = cause < 6 || cause > 15;
         for slot in [0, 7] {
             let mut other = state.clone();
             other[at + model::layout::ORDER * slot] = cause;

@@ -26,11 +26,11 @@ fn load(name: &str, plan_name: &str) -> Result<String, String> {
 }
 
 /// What a command answers.
-fn done(state: &mut State, word: &str, numbers: &[u64]) -> Result<String, Refused> {
+fn done(state: &mut State, word: &str, numbers: &[u64], reply: u64) -> Result<String, Refused> {
     Ok(match word {
         "post" => {
             let small: Vec<u32> = numbers.iter().map(|&n| n as u32).collect();
-            state.post(small[0], small[1], &small[2..])?;
+            state.post_with_reply(small[0], small[1], &small[2..], reply as u32)?;
             "post: it waits\n".into()
         }
         "offers" => {
@@ -49,7 +49,7 @@ fn done(state: &mut State, word: &str, numbers: &[u64]) -> Result<String, Refuse
         "collect" => {
             let message = state.collect()?;
             let values: String = message.values.iter().map(|v| format!(" {v}")).collect();
-            format!("collect: to partner {}, operation {}:{values}\n", message.partner, message.operation)
+            format!("collect: to partner {}, operation {}:{values}, reply to partner {}\n", message.partner, message.operation, message.reply)
         }
         "tally" => {
             let t = state.tally();
@@ -99,13 +99,19 @@ fn main() -> ExitCode {
     }
     let most = if word == "post" { u64::from(u32::MAX) } else { u64::MAX };
     let mut numbers = Vec::new();
-    for digits in rest.iter().filter(|_| word != "load") {
+    // The word before the last number is left out, and the number is the partner to reply to.
+    let replies = word == "post" && rest.len() > 1 && rest[rest.len() - 2] == "reply";
+    for (i, digits) in rest.iter().enumerate().filter(|_| word != "load") {
+        if replies && i + 2 == rest.len() {
+            continue;
+        }
         let digital = !digits.is_empty() && digits.bytes().all(|b| b.is_ascii_digit());
         match digits.parse::<u64>() {
             Ok(n) if digital && n <= most => numbers.push(n),
             _ => return told_with(2, &format!("{word}: '{digits}' is no number\n")),
         }
     }
+    let reply = if replies { numbers.pop().unwrap_or(0) } else { 0 };
     let takes = match word.as_str() {
         "post" => 3..=1024,
         "run" => 1..=1024,
@@ -117,7 +123,7 @@ fn main() -> ExitCode {
         if !takes.contains(&numbers.len()) {
             return Ok(Some(format!("{word}: no such command, or not with so many numbers\n")));
         }
-        let answer = done(state, word, &numbers).map_err(Undone::Refused)?;
+        let answer = done(state, word, &numbers, reply).map_err(Undone::Refused)?;
         say(&answer).map_err(|_| Undone::Unsaid)?;
         Ok(None)
     });

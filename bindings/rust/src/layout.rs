@@ -2,7 +2,7 @@
 //! offsets in a message and in an order count from its first byte.
 #![allow(missing_docs)]
 // layout: written by tools/layout from data/layout.txt
-pub const MARK: &[u8; 8] = b"MOONHAL3";
+pub const MARK: &[u8; 8] = b"MOONHAL4";
 pub const TALLY_STARTED: usize = 8;
 pub const TALLY_WELL: usize = 12;
 pub const TALLY_HANDLED: usize = 16;
@@ -13,15 +13,16 @@ pub const PLAN: usize = 36;
 pub const WAITING: usize = 4132;
 pub const MESSAGES: usize = 4140;
 pub const MESSAGES_MOST: usize = 64;
-pub const ORDERS: usize = 5932;
+pub const ORDERS: usize = 6188;
 pub const ORDERS_MOST: usize = 16;
-pub const STATE: usize = 12492;
+pub const STATE: usize = 12748;
 pub const MESSAGE_PARTNER: usize = 0;
 pub const MESSAGE_OPERATION: usize = 4;
 pub const MESSAGE_COUNT: usize = 8;
 pub const MESSAGE_VALUES: usize = 12;
 pub const MESSAGE_VALUES_MOST: usize = 4;
-pub const MESSAGE: usize = 28;
+pub const MESSAGE_REPLY: usize = 28;
+pub const MESSAGE: usize = 32;
 pub const ORDER_ROOT: usize = 0;
 pub const ORDER_MARKS: usize = 1;
 pub const ORDER_MARKS_MOST: usize = 256;

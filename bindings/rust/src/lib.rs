@@ -69,12 +69,13 @@ pub struct Offers {
     pub held: bool,
 }
 
-/// A message: its partner, its operation and one to four values.
+/// A message: its partner, its operation, one to four values, and the partner to reply to.
 #[derive(Clone, Debug, PartialEq, Eq)]
 pub struct Message {
     pub partner: u32,
     pub operation: u32,
     pub values: Vec<u32>,
+    pub reply: u32,
 }
 
 /// How many orders started, and how many ended in each way.
@@ -217,6 +218,7 @@ fn message(bytes: &[u8]) -> Message {
         partner: number(bytes, layout::MESSAGE_PARTNER),
         operation: number(bytes, layout::MESSAGE_OPERATION),
         values: (0..count).map(|i| number(bytes, layout::MESSAGE_VALUES + 4 * i)).collect(),
+        reply: number(bytes, layout::MESSAGE_REPLY),
     }
 }
 
@@ -267,12 +269,17 @@ impl State {
         &self.0
     }
 
-    /// Posts a message with one to four values: it waits after the others.
+    /// Posts a message with one to four values: it waits after the others. Its partner to reply to is 0.
     pub fn post(&mut self, partner: u32, operation: u32, values: &[u32]) -> Result<(), Refused> {
+        self.post_with_reply(partner, operation, values, 0)
+    }
+
+    /// The same, with the partner to reply to, 0 to 63.
+    pub fn post_with_reply(&mut self, partner: u32, operation: u32, values: &[u32], reply: u32) -> Result<(), Refused> {
         let v: Vec<u32> = (0..4).map(|i| values.get(i).copied().unwrap_or(0)).collect();
         let count = u32::try_from(values.len()).unwrap_or(u32::MAX);
         // SAFETY: as above.
-        refused(unsafe { sys::moonhalyard_post(self.0.as_mut_ptr(), self.0.len(), partner, operation, count, v[0], v[1], v[2], v[3]) })
+        refused(unsafe { sys::moonhalyard_post(self.0.as_mut_ptr(), self.0.len(), partner, operation, count, v[0], v[1], v[2], v[3], reply) })
     }
 
     /// The oldest message for a partner that the plan never receives on, which waits no longer; 15 where there is none.

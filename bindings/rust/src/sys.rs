@@ -11,7 +11,7 @@ extern "C" {
     pub fn moonhalyard_upgrade(old: *const u8, n: usize, state: *mut u8, size: usize) -> u32;
     pub fn moonhalyard_seal(bytes: *const u8, n: usize) -> u64;
     #[allow(clippy::too_many_arguments)]
-    pub fn moonhalyard_post(state: *mut u8, size: usize, partner: u32, operation: u32, count: u32, v0: u32, v1: u32, v2: u32, v3: u32) -> u32;
+    pub fn moonhalyard_post(state: *mut u8, size: usize, partner: u32, operation: u32, count: u32, v0: u32, v1: u32, v2: u32, v3: u32, reply: u32) -> u32;
     pub fn moonhalyard_collect(state: *mut u8, size: usize, message: *mut u8, room: usize) -> u32;
     pub fn moonhalyard_drop(state: *mut u8, size: usize, place: usize, message: *mut u8, room: usize) -> u32;
     pub fn moonhalyard_offer(state: *const u8, size: usize, choice: u64) -> u64;

@@ -7,7 +7,7 @@ use native.Mathlib.Omega.{arith}
 use borrow.Author.Tests.{eq-eqb, ne-eqb, lt-ltb, le-ltb, ltb-true}
 use lib.Dec.{eqb, ltb}
 use lib.ListN.{length}
-use Rattle.plan.specs.Tree.{Own, empty, send, receive, set as setting, raise, leave, choose, repeat, sequence, flow, pick, scope, arm, kind, isScope, hasUndo, numbersOf, generalPart, undoPart, isPick, Act, act, Acts, none, more, size, sizes}
+use Rattle.plan.specs.Tree.{toPartner, toHeld, fromPartner, fromAsking, Own, empty, send, receive, set as setting, raise, leave, choose, repeat, sequence, flow, pick, scope, arm, kind, isScope, hasUndo, numbersOf, generalPart, undoPart, isPick, Act, act, Acts, none, more, size, sizes}
 use Rattle.order.specs.declared.Order.{Order}
 use Rattle.order.specs.declared.Spot.{Spot}
 use Rattle.order.specs.declared.Way.{Way}
@@ -233,8 +233,10 @@ module _ (t : List ℕ) (k e child : ℕ) (o : Order) {kd : ℕ} (q : KindOf t k
         → combines own l k x (overAt o) ≡ goesOn k 2 (finishes k) (overAt o)
     unfolding combines kind
     inside-over empty l x h d = absurd (false≢true d)
-    inside-over (send p q vs) l x h d = absurd (false≢true d)
-    inside-over (receive p q vs) l x h d = absurd (false≢true d)
+    inside-over (send (toPartner p) q vs) l x h d = absurd (false≢true d)
+    inside-over (send (toHeld v r) q vs) l x h d = absurd (false≢true d)
+    inside-over (receive (fromPartner p) q vs) l x h d = absurd (false≢true d)
+    inside-over (receive (fromAsking p v) q vs) l x h d = absurd (false≢true d)
     inside-over (setting v e) l x h d = absurd (false≢true d)
     inside-over (raise zero) l x h d = absurd (false≢true d)
     inside-over (raise (suc number)) l x h d = absurd (false≢true d)
@@ -436,18 +438,24 @@ module _ {t : List ℕ} {q k : ℕ} {o : Order} where
   unfolding replaces
   replaced-receive a e y = record { is = λ own l d s g. y ∙ sym (ap went (in-place own l q k o true (rw (kind-there own l a s ∙ e)))) }
 
+  pub replaced-asking : {n : ℕ} → KindOf t k n → n ≡ 18 → {r : Went} → r ≡ raisesOf conflictingReceive k o → Performs t inPlace q k o r
+  unfolding replaces
+  replaced-asking a e y = record { is = λ own l d s g. y ∙ sym (ap went (in-place own l q k o true (rw (kind-there own l a s ∙ e)))) }
+
   pub replaced-arm : {n : ℕ} → KindOf t k n → n ≡ 255 → {r : Went} → r ≡ raisesOf conflictingReceive k o → Performs t inPlace q k o r
   unfolding replaces
   replaced-arm a e y = record { is = λ own l d s g. y ∙ sym (ap went (in-place own l q k o true (rw (kind-there own l a s ∙ e)))) }
 
-  pub replaced-other : {n : ℕ} → KindOf t k n → (n ≡ 2 → ⊥) → (n ≡ 255 → ⊥) → {r : Went} → StepsAt t q k o r → Performs t inPlace q k o r
+  pub replaced-other : {n : ℕ} → KindOf t k n → (n ≡ 2 → ⊥) → (n ≡ 18 → ⊥) → (n ≡ 255 → ⊥) → {r : Went} → StepsAt t q k o r → Performs t inPlace q k o r
   unfolding replaces
-  replaced-other {n} a e d y =
+  replaced-other {n} a e f d y =
       record {
         is = λ own l i s g.
-            y .is own l i s g
-            ∙ sym (ap went (in-place own l q k o false (rw (ne-eqb (kind own) 2 (λ z. e (sym (kind-there own l a s) ∙ z)), ne-eqb (kind own) 255 (λ z. d (sym (kind-there own l a s) ∙ z))))));
+            y .is own l i s g ∙ sym (ap went (in-place own l q k o false (rw (unlike own l s 2 e, unlike own l s 18 f, unlike own l s 255 d))));
       }
+    where
+      unlike : (own : Own) (l : Acts) → Stands (act own l) k t → (m : ℕ) → (n ≡ m → ⊥) → eqb (kind own) m ≡ false
+      unlike own l s m h = ne-eqb (kind own) m (λ z. h (sym (kind-there own l a s) ∙ z))
 
   pub performs-raise : {b : Bool} → b ≡ true → {r : Went} → Performs t inPlace q k o r → Performs t (actorOf b) q k o r
   performs-raise e y = rw e y

@@ -1,20 +1,22 @@
 -- The returns of the functions by which an order takes a message. Assumes nothing.
 use mathlib.Core.Path.{_≡_, refl, sym, ap, _∙_}
-use mathlib.Core.Bool.{true, not}
+use mathlib.Core.Bool.{true, not, _||_, _&&_}
 use mathlib.Core.List.{List, _∷_}
-use Prim.Native.Nat.{ℕ, zero, suc, _+_, _<_, _≤_}
+use Prim.Native.Nat.{ℕ, zero, suc, _+_, _*_, _<_, _≤_}
 use native.Mathlib.Numerals.{add-one}
 use native.Mathlib.Omega.{arith}
-use borrow.Author.Tests.{le-ltb}
+use borrow.Author.Tests.{le-ltb, ltb-true}
 use lib.Dec.{eqb, ltb}
 use lib.ListN.{length, getD, drop, drop-of-length-le}
 use lib.Seq.{drop-cons, drop-drop, getD-drop}
+use Rattle.plan.specs.Found.{among}
 use Rattle.plan.specs.Spells.{variablesOf}
-use Rattle.plan.specs.Tree.{Own, empty, send, receive, set as setting, raise, leave, choose, repeat, sequence, flow, pick, scope, arm, kind, Act, act, Acts, none, more, size, sizes, count}
-use Rattle.plan.specs.Within.{ownWithin}
+use Rattle.plan.specs.Table.{rowOf}
+use Rattle.plan.specs.Tree.{From, fromPartner, fromAsking, Own, empty, send, receive, set as setting, raise, leave, choose, repeat, sequence, flow, pick, scope, arm, kind, Act, act, Acts, none, more, size, sizes, count}
+use Rattle.plan.specs.Within.{ownWithin, exchangeWithin}
 use Rattle.plan.proofs.Accepts.{both}
 use Rattle.order.specs.declared.Order.{Order}
-use Rattle.order.specs.Answering.{KindOf, CountOf, VariableOf, Names, Binds, BindsRow, TakesOrder}
+use Rattle.order.specs.Answering.{KindOf, CountOf, VariableOf, Names, Binds, BindsRow, BindsAsking, TakesOrder}
 use Rattle.order.specs.Stands.{Stands}
 use Rattle.order.specs.State.{binding}
 use Rattle.order.specs.Taking.{actIn, actAmong, actAt, bindAll, bindOwn, bindAct}
@@ -57,13 +59,34 @@ module _ {t : List ℕ} {k : ℕ} {xs : List ℕ} {o₀ : Order} {i : ℕ} {o : 
         ∙ (ap (λ (l : List ℕ). bindAll l (drop i xs) o) c ∙ bind-next (getD vs i 0) (drop (i + 1) vs) (drop i xs) (drop (i + 1) xs) (getD xs i 0) o p d f y);
   }
 
--- the variables of a receive and of an arm
+-- `bind_asking`: the reply partner after the tuple
+pub asking-binds : {t : List ℕ} {k : ℕ} {xs : List ℕ} {o p r : Order} → BindsRow t k xs o p → Binds (getD t (k * 13 + 8) 0) (getD xs 4 0) p r → BindsAsking t k xs o r
+asking-binds b c = record { is = λ vs m h. c .is h ∙ rw (b .is vs m) }
+
+-- the variables of a receive and of an arm, and the one for the reply partner
+pub record AskingRow (t : List ℕ) (k v : ℕ) (vs : List ℕ) : Type 0 where
+  pub names : Names t k vs
+  pub variable : getD t (k * 13 + 8) 0 ≡ v
+  pub small : v < 16
+
 module _ (t : List ℕ) (k p q : ℕ) (vs : List ℕ) (l : Acts) where
-  receive-names : Stands (act (receive p q vs) l) k t → Names t k vs
+  receive-names : Stands (act (receive (fromPartner p) q vs) l) k t → Names t k vs
   unfolding Stands variablesOf ownWithin
   receive-names s =
       both (not (s .first .arms)) _ (s .first .limits) (λ a b.
       both (eqb (count l) 0) _ b (λ c d. line-names (s .first) refl true p q (omega arith) d))
+
+  asking-row : (v : ℕ) → Stands (act (receive (fromAsking p v) q vs) l) k t → AskingRow t k v vs
+  unfolding Stands variablesOf ownWithin rowOf
+  asking-row v s =
+      both (not (s .first .arms)) _ (s .first .limits) (λ a b.
+      both (eqb (count l) 0) _ b (λ c d.
+      both (exchangeWithin (s .first .variables) true p q vs) _ d (λ e f.
+      both (ltb v (s .first .variables)) _ f (λ g h. record {
+        names = line-names (s .first) refl true p q (omega arith) e;
+        variable = s .first .row .variable;
+        small = omega (arith, ltb-true v (s .first .variables) g, s .first .few);
+      }))))
 
   arm-names : Stands (act (arm p q vs) l) k t → Names t k vs
   unfolding Stands variablesOf ownWithin
@@ -104,27 +127,37 @@ module _ (t : List ℕ) (n x : ℕ) (xs : List ℕ) (o : Order) where
     takes-receive h {r} b = by-row (λ own l s.
         of-kind 2 (λ w. Stands (act w l) x t → r ≡ bindOwn w xs o) (λ p y vs s. b .is vs (receive-names t x p y vs l s)) own (sym (row-kind q own l s) ∙ h) s)
 
+    pub takes-asking : kd ≡ 18 → {r : Order} → BindsAsking t x xs o r → TakesOrder t n x xs o r
+    unfolding bindOwn
+    takes-asking h {r} b = by-row (λ own l s.
+        of-kind 18 (λ w. Stands (act w l) x t → r ≡ bindOwn w xs o)
+        (λ p v y vs s.
+        let z = asking-row t x p y vs l v s in
+        rw (z .variable) at (b .is vs (z .names) (rw (z .variable) (z .small))))
+        own (sym (row-kind q own l s) ∙ h) s)
+
     pub takes-arm : kd ≡ 255 → {r : Order} → BindsRow t x xs o r → TakesOrder t n x xs o r
     unfolding bindOwn
     takes-arm h {r} b = by-row (λ own l s.
         of-kind 255 (λ w. Stands (act w l) x t → r ≡ bindOwn w xs o) (λ p y vs s. b .is vs (arm-names t x p y vs l s)) own (sym (row-kind q own l s) ∙ h) s)
 
-    no-take : (kd ≡ 2 → ⊥) → (kd ≡ 255 → ⊥) → (own : Own) → kind own ≡ kd → o ≡ bindOwn own xs o
+    no-take : (kd ≡ 2 → ⊥) → (kd ≡ 18 → ⊥) → (kd ≡ 255 → ⊥) → (own : Own) → kind own ≡ kd → o ≡ bindOwn own xs o
     unfolding bindOwn kind
-    no-take h i empty e = refl
-    no-take h i (send p y vs) e = refl
-    no-take h i (receive p y vs) e = absurd (h (sym e))
-    no-take h i (setting v d) e = refl
-    no-take h i (raise zero) e = refl
-    no-take h i (raise (suc number)) e = refl
-    no-take h i leave e = refl
-    no-take h i (choose d) e = refl
-    no-take h i (repeat d) e = refl
-    no-take h i sequence e = refl
-    no-take h i flow e = refl
-    no-take h i pick e = refl
-    no-take h i (scope ns u) e = refl
-    no-take h i (arm p y vs) e = absurd (i (sym e))
+    no-take h g i empty e = refl
+    no-take h g i (send p y vs) e = refl
+    no-take h g i (receive (fromPartner p) y vs) e = absurd (h (sym e))
+    no-take h g i (receive (fromAsking p v) y vs) e = absurd (g (sym e))
+    no-take h g i (setting v d) e = refl
+    no-take h g i (raise zero) e = refl
+    no-take h g i (raise (suc number)) e = refl
+    no-take h g i leave e = refl
+    no-take h g i (choose d) e = refl
+    no-take h g i (repeat d) e = refl
+    no-take h g i sequence e = refl
+    no-take h g i flow e = refl
+    no-take h g i pick e = refl
+    no-take h g i (scope ns u) e = refl
+    no-take h g i (arm p y vs) e = absurd (i (sym e))
 
-    pub takes-none : (kd ≡ 2 → ⊥) → (kd ≡ 255 → ⊥) → TakesOrder t n x xs o o
-    takes-none h i = by-row (λ own l s. no-take h i own (sym (row-kind q own l s)))
+    pub takes-none : (kd ≡ 2 → ⊥) → (kd ≡ 18 → ⊥) → (kd ≡ 255 → ⊥) → TakesOrder t n x xs o o
+    takes-none h g i = by-row (λ own l s. no-take h g i own (sym (row-kind q own l s)))

@@ -210,6 +210,9 @@ fn replaced(table: &Table, q: usize, k: usize, order: Order) -> Went
     if kind == kind::RECEIVE {
         return raises(fault::CONFLICTING_RECEIVE, k, order);
     }
+    if kind == kind::ASKING_RECEIVE {
+        return raises(fault::CONFLICTING_RECEIVE, k, order);
+    }
     if kind == kind::ARM {
         return raises(fault::CONFLICTING_RECEIVE, k, order);
     }

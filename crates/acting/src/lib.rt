@@ -29,13 +29,14 @@ pub fn step_order(table: &Table, activities: usize, order: Order, t: usize) -> N
     )
 }
 
-// The order that takes a message with these values by activity t: the variables of a receive or an arm are bound. Its step comes after.
+// The order that takes a message by activity t, which gives its four values and then whom to reply to: the variables of a receive or an arm are bound, and
+// then the one that a receive has for whom to reply to. Its step comes after.
 pub fn taken_order(
     table: &Table,
     activities: usize,
     order: Order,
     t: usize,
-    values: [u32; 4],
+    values: [u32; 5],
 ) -> Order
     ensures { λ r. ⌜ TakesOrder (now (table .entry)) activities t values order r ⌝ }
 {
@@ -48,6 +49,9 @@ pub fn taken_order(
     let kind = kind_of(table, t);
     if kind == kind::RECEIVE {
         return taking::bind_row(table, t, values, order);
+    }
+    if kind == kind::ASKING_RECEIVE {
+        return taking::bind_asking(table, t, values, order);
     }
     if kind == kind::ARM {
         return taking::bind_row(table, t, values, order);

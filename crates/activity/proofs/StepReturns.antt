@@ -3,16 +3,14 @@ use mathlib.Core.Path.{_≡_, refl, sym, ap, _∙_}
 use mathlib.Core.Bool.{Bool, true, false, cond, not, _&&_, false≢true}
 use mathlib.Core.List.{List, [], _∷_, _++_}
 use Prim.Native.Nat.{ℕ, zero, suc, _+_, _*_, _-_, _<_, _≤_}
-use native.Mathlib.Numerals.{add-one}
 use native.Mathlib.Omega.{arith}
 use borrow.Author.Tests.{eq-eqb, ne-eqb, eqb-true, ltb-true, leb-true}
 use lib.Dec.{eqb, ltb, leb}
-use lib.ListN.{length, getD, drop, drop-of-length-le}
-use lib.Seq.{drop-cons}
+use lib.ListN.{length, getD}
 use Rattle.plan.specs.Found.{among}
 use Rattle.plan.specs.Spells.{SpellsOwn, variablesOf}
 use Rattle.plan.specs.Table.{rowOf}
-use Rattle.plan.specs.Tree.{Exp, Own, empty, send, receive, set as setting, raise, leave, choose, repeat, sequence, flow, pick, scope, arm, kind, numbersOf, Act, act, Acts, none, more, size, sizes, count}
+use Rattle.plan.specs.Tree.{Exp, To, toPartner, toHeld, heldBy, fromPartner, fromAsking, Own, empty, send, receive, set as setting, raise, leave, choose, repeat, sequence, flow, pick, scope, arm, kind, numbersOf, Act, act, Acts, none, more, size, sizes, count}
 use Rattle.plan.specs.Within.{ownWithin, exchangeWithin, variablesWithin, raiseWithin}
 use Rattle.plan.proofs.Accepts.{both}
 use Rattle.plan.proofs.TableSpells.{row-count, row-variables}
@@ -22,14 +20,14 @@ use Rattle.order.specs.declared.Order.{Order}
 use Rattle.order.specs.declared.Way.the-variants.{Over, Raising, Leaving}
 use Rattle.order.specs.declared.Went.{Went}
 use Rattle.order.specs.declared.Worth.{Worth}
-use Rattle.order.specs.Acting.{finishes, enters, again, repeats, itself}
-use Rattle.order.specs.Answering.{went, isOver, worthOf, Evaluates, begunOf, Begins, Clears, KindOf, forPart, notFor, handed, Forgets, Remembers, Hands, runsOf, finishesOf, raisesOf, leavesOf, Bound, CountOf, VariableOf, Names, AllBound, Binds, Enters, StepOf, Roomy, Closes, HandsOn, StepsAt, Repeats, WorthAt}
+use Rattle.order.specs.Acting.{finishes, enters, again, repeats, allBound, reaches, itself}
+use Rattle.order.specs.Answering.{went, isOver, worthOf, Evaluates, begunOf, Begins, Clears, KindOf, forPart, notFor, handed, Forgets, Remembers, Hands, runsOf, finishesOf, raisesOf, leavesOf, CountOf, Names, Tuple, toAt, AllBound, Reaches, Binds, Enters, SendStep, StepOf, Roomy, Closes, HandsOn, StepsAt, Repeats, WorthAt}
 use Rattle.order.specs.Begin.{begin, part, partAt, beginPart}
-use Rattle.order.specs.Expression.{plainRaise, unboundVariable, Value, fault, value, evaluate, isTrue}
-use Rattle.order.specs.Lists.{only, every}
+use Rattle.order.specs.Expression.{plainRaise, unboundVariable, noSuchPartner, Value, fault, value, evaluate, isTrue}
+use Rattle.order.specs.Lists.{only}
 use Rattle.order.specs.Scope.{begunIn, whereOver, scopeAt, isFor, listOf, forgetting, adds, closing}
 use Rattle.order.specs.Stands.{End, Line, Stands}
-use Rattle.order.specs.State.{closings, remembering, marked, withMarks, isBound, binding}
+use Rattle.order.specs.State.{closings, remembering, marked, withMarks, binding}
 use Rattle.order.proofs.EvaluationReturns.{fault-known, value-known}
 use Rattle.order.proofs.Owns.{of-kind}
 use Rattle.order.proofs.MemoryReturns.{closings-are}
@@ -50,13 +48,7 @@ module _ (k : ℕ) (o : Order) where
   pub again-is : {p : Order} → p ≡ marked k 1 o → {r : Went} → r ≡ runsOf p → r ≡ runsOf (marked k 1 o)
   again-is e g = g ∙ rw e
 
--- `is_bound`, `binding`
-pub bound-far : (o : Order) (v : ℕ) {r : Bool} → 16 ≤ v → Bound o v r
-bound-far o v h = record { is = λ l. absurd (omega arith) }
-
-pub bound-is : (o : Order) (v : ℕ) → Bound o v (eqb (getD (o .bound) v 0) 1)
-bound-is o v = record { is = λ l. refl }
-
+-- `binding`
 pub binds-far : (v x : ℕ) (o : Order) {r : Order} → 16 ≤ v → Binds v x o r
 binds-far v x o h = record { is = λ l. absurd (omega arith) }
 
@@ -87,40 +79,6 @@ module _ (t : List ℕ) (k c : ℕ) (o : Order) {o₁ : Order} (e : o₁ ≡ mar
 pub names-count : {t : List ℕ} {k n : ℕ} {vs : List ℕ} → CountOf t k n → Names t k vs → n ≡ length vs
 names-count c m = c .is (m .row) (omega (arith, m .count, m .few)) ∙ m .count
 
--- the loop of `all_bound`: those before are bound
-pub record Checking (t : List ℕ) (k : ℕ) (o : Order) (i : ℕ) : Type 0 where
-  pub is : (vs : List ℕ) → Names t k vs → every (isBound o) vs ≡ every (isBound o) (drop i vs)
-
-pub checking-starts : (t : List ℕ) (k : ℕ) (o : Order) → Checking t k o 0
-checking-starts t k o = record { is = λ vs n. refl }
-
-pub bound-beyond : (t : List ℕ) (k : ℕ) (o : Order) → 256 ≤ k → AllBound t k o false
-bound-beyond t k o h = record { is = λ vs n. absurd (omega (arith, n .row)); beyond = λ g. refl }
-
-module _ {t : List ℕ} {k : ℕ} {o : Order} {i n : ℕ} (w : Checking t k o i) (c : CountOf t k n) where
-  pub checking-done : k < 256 → n ≤ i → AllBound t k o true
-  unfolding every
-  checking-done f h = record {
-    is = λ vs m. let g : length vs ≤ i = omega (arith, names-count c m) in sym (w .is vs m ∙ rw (drop-of-length-le vs g));
-    beyond = λ g. absurd (omega arith);
-  }
-
-  module _ (h : i < n) {v : ℕ} (q : VariableOf t k i v) {b : Bool} (x : Bound o v b) where
-    next-bound : (vs : List ℕ) → Names t k vs → every (isBound o) (drop i vs) ≡ (b && every (isBound o) (drop (i + 1) vs))
-    unfolding every
-    next-bound vs m =
-        let g : i < length vs = omega (arith, names-count c m) in
-        let f : i < 4 = omega (arith, m .few) in
-        let u : v ≡ getD vs i 0 = q .is (m .row) f ∙ m .variables i f in
-        let y : b ≡ isBound o (getD vs i 0) = rw u at (x .is (rw u (m .small i g))) in
-        rw (y, add-one, drop-cons vs i 0 g)
-
-    pub checking-again : b ≡ true → Checking t k o (i + 1)
-    checking-again e = record { is = λ vs m. w .is vs m ∙ (rw e at (next-bound vs m)) }
-
-    pub checking-fails : b ≡ false → AllBound t k o false
-    checking-fails e = record { is = λ vs m. sym (w .is vs m ∙ (rw e at (next-bound vs m))); beyond = λ g. refl }
-
 -- what the limits say of the variables of a tuple
 pub variables-small : (vars : ℕ) (once : Bool) (vs : List ℕ) → variablesWithin vars once vs ≡ true → vars ≤ 16 → (i : ℕ) → i < length vs → getD vs i 0 < 16
 unfolding variablesWithin
@@ -145,29 +103,46 @@ line-names {own} w u once p q z h =
       small = variables-small (w .variables) once (variablesOf own) i (w .few);
     }))))
 
--- `sends`
-pub send-names : (t : List ℕ) (k p q : ℕ) (vs : List ℕ) (l : Acts) → Stands (act (send p q vs) l) k t → Names t k vs
-unfolding Stands variablesOf ownWithin
-send-names t k p q vs l s =
-    both (not (s .first .arms)) _ (s .first .limits) (λ a b.
-    both (eqb (count l) 0) _ b (λ c d. line-names (s .first) refl false p q (omega arith) d))
+-- `sends`: what the row of a send says
+module _ (t : List ℕ) (k : ℕ) (q : ℕ) (vs : List ℕ) (l : Acts) where
+  pub send-names : (to : To) → Stands (act (send to q vs) l) k t → Names t k vs
+  unfolding Stands variablesOf ownWithin
+  send-names (toPartner p) s =
+      both (not (s .first .arms)) _ (s .first .limits) (λ a b.
+      both (eqb (count l) 0) _ b (λ c d. line-names (s .first) refl false p q (omega arith) d))
+  send-names (toHeld v r) s =
+      both (not (s .first .arms)) _ (s .first .limits) (λ a b.
+      both (eqb (count l) 0) _ b (λ c d.
+      both (ltb v (s .first .variables)) _ d (λ e f. line-names (s .first) refl false r q (omega arith) f)))
 
-module _ (t : List ℕ) (k : ℕ) (o : Order) {b : Bool} (x : AllBound t k o b) where
-  pub send-sends : b ≡ true → {r : Went} → r ≡ finishesOf k o → StepOf 1 t k o r
-  unfolding itself
-  send-sends e {r} g = record {
-    is = λ own l pt n s.
-        of-kind 1 (λ w. Stands (act w l) k t → r ≡ went (itself w l pt k o))
-        (λ p q vs s. rw (← x .is vs (send-names t k p q vs l s), e) g) own n s;
-  }
+  pub send-to : (to : To) → Stands (act (send to q vs) l) k t → toAt t k ≡ to
+  unfolding Stands rowOf kind
+  send-to (toPartner p) s = rw (s .first .row .kind, s .first .row .partner)
+  send-to (toHeld v r) s = rw (s .first .row .kind, s .first .row .partner, s .first .row .variable)
 
-  pub send-raises : b ≡ false → {r : Went} → r ≡ raisesOf unboundVariable k o → StepOf 1 t k o r
+pub names-tuple : {t : List ℕ} {k : ℕ} {vs : List ℕ} → Names t k vs → Tuple t k vs
+names-tuple m = record { count = m .count; variables = m .variables; few = m .few }
+
+module _ (t : List ℕ) (k : ℕ) (o : Order) (h : k < 256) (w : length (o .bound) ≡ 16) {b : Bool} (x : AllBound t k (o .bound) b) where
+  send-bound : (to : To) (q : ℕ) (vs : List ℕ) (l : Acts) → Stands (act (send to q vs) l) k t → b ≡ allBound o (heldBy to ++ vs)
+  send-bound to q vs l s =
+      x .is o vs h (record { same = refl; sixteen = w }) (names-tuple (send-names t k q vs l to s)) ∙ rw (send-to t k q vs l to s)
+
+  pub send-raises : b ≡ false → {r : Went} → r ≡ raisesOf unboundVariable k o → SendStep t k o r
   unfolding itself
-  send-raises e {r} g = record {
-    is = λ own l pt n s.
-        of-kind 1 (λ w. Stands (act w l) k t → r ≡ went (itself w l pt k o))
-        (λ p q vs s. rw (← x .is vs (send-names t k p q vs l s), e) g) own n s;
-  }
+  send-raises e g = record { is = λ to q vs l pt s. rw (sym (send-bound to q vs l s) ∙ e) g }
+
+  module _ (e : b ≡ true) (u : length (o .values) ≡ 16) {c : Bool} (y : Reaches t k (o .values) c) where
+    send-reaches : (to : To) (q : ℕ) (vs : List ℕ) (l : Acts) → Stands (act (send to q vs) l) k t → c ≡ reaches o to
+    send-reaches to q vs l s = y .is o (record { same = refl; sixteen = u }) ∙ rw (send-to t k q vs l to s)
+
+    pub send-sends : c ≡ true → {r : Went} → r ≡ finishesOf k o → SendStep t k o r
+    unfolding itself
+    send-sends f g = record { is = λ to q vs l pt s. rw (sym (send-bound to q vs l s) ∙ e, sym (send-reaches to q vs l s) ∙ f) g }
+
+    pub send-misses : c ≡ false → {r : Went} → r ≡ raisesOf noSuchPartner k o → SendStep t k o r
+    unfolding itself
+    send-misses f g = record { is = λ to q vs l pt s. rw (sym (send-bound to q vs l s) ∙ e, sym (send-reaches to q vs l s) ∙ f) g }
 
 -- `sets`
 pub record SetRow (t : List ℕ) (k v : ℕ) (o : Order) (e : Exp) (w : Worth) : Type 0 where
@@ -463,10 +438,28 @@ module _ (t : List ℕ) (pt k : ℕ) (o : Order) {kd : ℕ} (q : KindOf t k kd) 
     is = λ own l d s room. of-kind 12 (λ w. r ≡ went (itself w l pt k o)) (x .is (below own l s) d [] l) own (sym (row-kind q own l s) ∙ e);
   }
 
+  pub itself-sends : kd ≡ 1 → {r : Went} → SendStep t k o r → StepsAt t pt k o r
+  itself-sends e {r} x = record {
+    is = λ own l d s room.
+        of-kind 1 (λ w. Stands (act w l) k t → r ≡ went (itself w l pt k o)) (λ p a vs s. x .is (toPartner p) a vs l pt s) own (sym (row-kind q own l s) ∙ e) s;
+  }
+
+  pub itself-sends-held : kd ≡ 17 → {r : Went} → SendStep t k o r → StepsAt t pt k o r
+  itself-sends-held e {r} x = record {
+    is = λ own l d s room.
+        of-kind 17 (λ w. Stands (act w l) k t → r ≡ went (itself w l pt k o)) (λ v p a vs s. x .is (toHeld v p) a vs l pt s) own (sym (row-kind q own l s) ∙ e) s;
+  }
+
   pub itself-receives : kd ≡ 2 → {r : Went} → r ≡ finishesOf k o → StepsAt t pt k o r
   unfolding itself
   itself-receives e {r} g = record {
     is = λ own l d s room. of-kind 2 (λ w. r ≡ went (itself w l pt k o)) (λ p q vs. g) own (sym (row-kind q own l s) ∙ e);
+  }
+
+  pub itself-receives-asking : kd ≡ 18 → {r : Went} → r ≡ finishesOf k o → StepsAt t pt k o r
+  unfolding itself
+  itself-receives-asking e {r} g = record {
+    is = λ own l d s room. of-kind 18 (λ w. r ≡ went (itself w l pt k o)) (λ p v q vs. g) own (sym (row-kind q own l s) ∙ e);
   }
 
   pub itself-raises : kd ≡ 4 → {r : Went} → r ≡ raisesOf plainRaise k o → StepsAt t pt k o r
@@ -478,12 +471,14 @@ module _ (t : List ℕ) (pt k : ℕ) (o : Order) {kd : ℕ} (q : KindOf t k kd) 
   itself-leaves e {r} g = record { is = λ own l d s room. of-kind 5 (λ w. r ≡ went (itself w l pt k o)) g own (sym (row-kind q own l s) ∙ e) }
 
   module _ (h1 : kd ≡ 1 → ⊥) (h2 : kd ≡ 2 → ⊥) (h3 : kd ≡ 3 → ⊥) (h4 : kd ≡ 4 → ⊥) (h5 : kd ≡ 5 → ⊥) (h6 : kd ≡ 6 → ⊥) (h7 : kd ≡ 7 → ⊥)
-      (h11 : kd ≡ 11 → ⊥) (h12 : kd ≡ 12 → ⊥) (h13 : kd ≡ 13 → ⊥) (h14 : kd ≡ 14 → ⊥) (h255 : kd ≡ 255 → ⊥) where
+      (h11 : kd ≡ 11 → ⊥) (h12 : kd ≡ 12 → ⊥) (h13 : kd ≡ 13 → ⊥) (h14 : kd ≡ 14 → ⊥) (h17 : kd ≡ 17 → ⊥) (h18 : kd ≡ 18 → ⊥) (h255 : kd ≡ 255 → ⊥) where
     runs-itself : {r : Went} → r ≡ runsOf o → (own : Own) (l : Acts) → kd ≡ kind own → r ≡ went (itself own l pt k o)
     unfolding itself kind
     runs-itself g empty l e = g
-    runs-itself g (send p q vs) l e = absurd (h1 e)
-    runs-itself g (receive p q vs) l e = absurd (h2 e)
+    runs-itself g (send (toPartner p) q vs) l e = absurd (h1 e)
+    runs-itself g (send (toHeld v r) q vs) l e = absurd (h17 e)
+    runs-itself g (receive (fromPartner p) q vs) l e = absurd (h2 e)
+    runs-itself g (receive (fromAsking p v) q vs) l e = absurd (h18 e)
     runs-itself g (setting v x) l e = absurd (h3 e)
     runs-itself g (raise zero) l e = absurd (h4 e)
     runs-itself g (raise (suc number)) l e = absurd (h13 e)

@@ -1,4 +1,4 @@
-// The step that an activity has by itself, and the variables that a row asks for and binds.
+// The step that an activity has by itself, and the binding of a variable.
 use beginning::begin;
 use order::Order;
 use order::Way;
@@ -16,10 +16,10 @@ use order::marks::with_marks;
 use order::memory::forgetting;
 use order::memory::handed_on;
 use order::memory::remembered;
-use order::rows::count_of;
 use order::rows::end_of;
 use order::rows::kind_of;
-use order::rows::variable_of;
+use order::sending::all_bound;
+use order::sending::reaches;
 use plan::kind;
 use plan::table::EXPRESSION;
 use plan::table::PARTNER;
@@ -29,7 +29,7 @@ use plan::table::WIDTH;
 ghost use Prim.Native.Nat.{_<_};
 ghost use mathlib.Core.Path.{_≡_};
 ghost use Rattle.order.specs.State.{marked as markedOf};
-ghost use Rattle.order.specs.Answering.{runsOf, finishesOf, raisesOf, leavesOf, Bound, AllBound, Binds, Enters, Repeats, StepOf, Closes, HandsOn, StepsAt, WorthAt};
+ghost use Rattle.order.specs.Answering.{runsOf, finishesOf, raisesOf, leavesOf, Binds, Enters, Repeats, SendStep, StepOf, Closes, HandsOn, StepsAt, WorthAt};
 
 // Activity k is over.
 pub fn finishes(k: usize, order: Order) -> Went
@@ -62,36 +62,6 @@ fn leaves(k: usize, order: Order) -> Went
         way: Way::Leaving,
         order: o,
     }
-}
-
-// Whether variable v is bound.
-fn is_bound(order: Order, v: u32) -> bool
-    ensures { λ r. ⌜ Bound order v r ⌝ }
-{
-    if 16 <= v {
-        return false;
-    }
-    let i = v as usize;
-    order.bound[i] == 1
-}
-
-// Whether all variables that row k names are bound; false where there is no row k.
-pub fn all_bound(table: &Table, k: usize, order: Order) -> bool
-    ensures { λ r. ⌜ AllBound (now (table .entry)) k order r ⌝ }
-{
-    if 256 <= k {
-        return false;
-    }
-    let n = count_of(table, k);
-    let mut i: usize = 0;
-    while i < n {
-        if is_bound(order, variable_of(table, k, i)) {
-            i += 1;
-        } else {
-            return false;
-        }
-    }
-    true
 }
 
 // The order with variable v bound to x.
@@ -173,12 +143,18 @@ fn hands_on(q: usize, k: usize, order: Order) -> Went
     finishes(k, p)
 }
 
-// A send.
+// A send: a variable that is not bound, its partner's too, is a fault before a partner that is none.
 fn sends(table: &Table, k: usize, order: Order) -> Went
-    ensures { λ r. ⌜ StepOf 1 (now (table .entry)) k order r ⌝ }
+    requires { ⌜ k < 256 ⌝ }
+    ensures { λ r. ⌜ SendStep (now (table .entry)) k order r ⌝ }
 {
-    if all_bound(table, k, order) {
-        return finishes(k, order);
+    let bound = order.bound;
+    if all_bound(table, k, &bound) {
+        let values = order.values;
+        if reaches(table, k, &values) {
+            return finishes(k, order);
+        }
+        return raises(fault::NO_SUCH_PARTNER, k, order);
     }
     raises(fault::UNBOUND_VARIABLE, k, order)
 }
@@ -281,7 +257,9 @@ pub fn itself(table: &Table, q: usize, k: usize, order: Order) -> Went
     let kind = kind_of(table, k);
     match kind {
         kind::SEND => sends(table, k, order),
+        kind::HELD_SEND => sends(table, k, order),
         kind::RECEIVE => finishes(k, order),
+        kind::ASKING_RECEIVE => finishes(k, order),
         kind::SET => sets(table, k, order),
         kind::RAISE => raises(fault::PLAIN_RAISE, k, order),
         kind::NUMBERED_RAISE => raises_its_number(table, k, order),

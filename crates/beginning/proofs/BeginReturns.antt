@@ -7,7 +7,7 @@ use native.Mathlib.Omega.{arith}
 use borrow.Author.Tests.{ne-eqb}
 use lib.Dec.{eqb}
 use lib.ListN.{set, replicate}
-use Rattle.plan.specs.Tree.{Own, empty, send, receive, set as setting, raise, leave, choose, repeat, sequence, flow, pick, scope, arm, kind, Act, act, Acts, none, more, size, sizes}
+use Rattle.plan.specs.Tree.{toPartner, toHeld, fromPartner, fromAsking, Own, empty, send, receive, set as setting, raise, leave, choose, repeat, sequence, flow, pick, scope, arm, kind, Act, act, Acts, none, more, size, sizes}
 use Rattle.order.specs.declared.Entered.{Entered}
 use Rattle.order.specs.declared.Order.{Order}
 use Rattle.order.specs.Acting.{begunOrder, startedOrder}
@@ -60,8 +60,10 @@ around-entered k b = by-test (b .marks) (b .log) (b .over)
 by-kind : (own : Own) (l : Acts) (k : ℕ) (ms : List ℕ) → entered (begin (act own l) k ms) ≡ beginKind (kind own) l k ms
 unfolding begin kind scopeKind
 by-kind empty l k ms = refl
-by-kind (send p o vs) l k ms = refl
-by-kind (receive p o vs) l k ms = refl
+by-kind (send (toPartner p) o vs) l k ms = refl
+by-kind (send (toHeld v r) o vs) l k ms = refl
+by-kind (receive (fromPartner p) o vs) l k ms = refl
+by-kind (receive (fromAsking p v) o vs) l k ms = refl
 by-kind (setting v e) l k ms = refl
 by-kind (raise zero) l k ms = refl
 by-kind (raise (suc number)) l k ms = refl

@@ -52,7 +52,7 @@ unfolding updated
 undone {n} s t l z = rw (ne-eqb n 0 z)
 
 -- `moonhalyard_load`
-module _ (s l : List ℕ) {r : Loaded} {t : Tally} {b : Bool} {o : List ℕ} (e : r ≡ calls.load s) (f : t ≡ noTally) (g : b ≡ eqb (length l) 12492)
+module _ (s l : List ℕ) {r : Loaded} {t : Tally} {b : Bool} {o : List ℕ} (e : r ≡ calls.load s) (f : t ≡ noTally) (g : b ≡ eqb (length l) 12748)
     (h : o ≡ packedInto (r .state) t l) where
   loaded : o ≡ loadBytes s l
   unfolding loadBytes
@@ -61,13 +61,13 @@ module _ (s l : List ℕ) {r : Loaded} {t : Tally} {b : Bool} {o : List ℕ} (e 
   pub load-taken : {n : ℕ} → b ≡ true → n ≡ pairOf (r .refusal) (r .place) → (n ≡ loadNumber s l) × (o ≡ loadBytes s l)
   unfolding loadNumber
   load-taken q k =
-      let z : eqb (length l) 12492 ≡ true = sym g ∙ q in
+      let z : eqb (length l) 12748 ≡ true = sym g ∙ q in
       (rw z (k ∙ rw e), loaded)
 
   pub load-short : {n : ℕ} → b ≡ false → n ≡ pairOf 18 0 → (n ≡ loadNumber s l) × (o ≡ loadBytes s l)
   unfolding loadNumber
   load-short q k =
-      let z : eqb (length l) 12492 ≡ false = sym g ∙ q in
+      let z : eqb (length l) 12748 ≡ false = sym g ∙ q in
       (rw z k, loaded)
 
 -- `moonhalyard_post`
@@ -89,31 +89,31 @@ module _ (m : Message) (l : List ℕ) {k : Kept} {r : Posted} (e : k ≡ unpacke
 
 -- `moonhalyard_collect`, `moonhalyard_drop`: a call that hands out a message
 module _ (call : State → Collected) where
-  pub handed-short : (l m : List ℕ) → length m < 28 → (18 ≡ handedNumber call l m) × ((l ≡ handedBytes call l m) × (m ≡ handedMessage call l m))
+  pub handed-short : (l m : List ℕ) → length m < 32 → (18 ≡ handedNumber call l m) × ((l ≡ handedBytes call l m) × (m ≡ handedMessage call l m))
   unfolding handedNumber handedBytes handedMessage
-  handed-short l m h = let z = lt-ltb (length m) 28 h in (rw z, (rw z, rw z))
+  handed-short l m h = let z = lt-ltb (length m) 32 h in (rw z, (rw z, rw z))
 
-  module _ (l m : List ℕ) {k : Kept} {r : Collected} {w : List ℕ} (c : 28 ≤ length m) (e : k ≡ unpacked l) (f : r ≡ call (k .state))
+  module _ (l m : List ℕ) {k : Kept} {r : Collected} {w : List ℕ} (c : 32 ≤ length m) (e : k ≡ unpacked l) (f : r ≡ call (k .state))
       (g : w ≡ messageInto (r .message) m) where
     called : r ≡ call (unpacked l .state)
     called = f ∙ ap (λ (x : Kept). call (x .state)) e
 
     handed : w ≡ handedMessage call l m
     unfolding handedMessage
-    handed = rw (le-ltb (length m) 28 c) (g ∙ ap (λ (x : Collected). messageInto (x .message) m) called)
+    handed = rw (le-ltb (length m) 32 c) (g ∙ ap (λ (x : Collected). messageInto (x .message) m) called)
 
     pub handed-taken : {o : List ℕ} → r .refusal ≡ 0 → o ≡ packedInto (r .state) (k .tally) l
         → (0 ≡ handedNumber call l m) × ((o ≡ handedBytes call l m) × (w ≡ handedMessage call l m))
     unfolding handedNumber handedBytes
     handed-taken z h =
-        let y = le-ltb (length m) 28 c in
+        let y = le-ltb (length m) 32 c in
         let n : call (unpacked l .state) .refusal ≡ 0 = sym (ap (λ (x : Collected). x .refusal) called) ∙ z in
         (rw y (sym n), (rw y (done l n h (ap (λ (x : Collected). x .state) called) (ap (λ (x : Kept). x .tally) e)), handed))
 
     pub handed-refused : (r .refusal ≡ 0 → ⊥) → (r .refusal ≡ handedNumber call l m) × ((l ≡ handedBytes call l m) × (w ≡ handedMessage call l m))
     unfolding handedNumber handedBytes
     handed-refused z =
-        let y = le-ltb (length m) 28 c in
+        let y = le-ltb (length m) 32 c in
         let n = ap (λ (x : Collected). x .refusal) called in
         (rw y n, (rw y (undone _ _ l (λ q. z (n ∙ q))), handed))
 

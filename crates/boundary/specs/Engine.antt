@@ -34,7 +34,7 @@ updated n s t l = cond (eqb n 0) (packedInto s t l) l
 
 -- load: the refusal and its place; 18 where there is no room for a state. A fresh state, or one with no plan, with nothing counted
 unfoldable pub loadNumber : (plan : List ℕ) → List ℕ → ℕ
-loadNumber s l = cond (eqb (length l) 12492) (pairOf (calls.load s .refusal) (calls.load s .place)) (pairOf 18 0)
+loadNumber s l = cond (eqb (length l) 12748) (pairOf (calls.load s .refusal) (calls.load s .place)) (pairOf 18 0)
 
 unfoldable pub loadBytes : (plan : List ℕ) → List ℕ → List ℕ
 loadBytes s l = packedInto (calls.load s .state) noTally l
@@ -51,13 +51,13 @@ postBytes m l = updated (postedIn m l .refusal) (postedIn m l .state) (tallyOf l
 
 -- a call that hands out a message: 18, and nothing changed, where there is no room for one
 unfoldable pub handedNumber : (State → Collected) → List ℕ → (message : List ℕ) → ℕ
-handedNumber call l m = cond (ltb (length m) 28) 18 (call (stateOf l) .refusal)
+handedNumber call l m = cond (ltb (length m) 32) 18 (call (stateOf l) .refusal)
 
 unfoldable pub handedBytes : (State → Collected) → List ℕ → (message : List ℕ) → List ℕ
-handedBytes call l m = cond (ltb (length m) 28) l (updated (call (stateOf l) .refusal) (call (stateOf l) .state) (tallyOf l) l)
+handedBytes call l m = cond (ltb (length m) 32) l (updated (call (stateOf l) .refusal) (call (stateOf l) .state) (tallyOf l) l)
 
 unfoldable pub handedMessage : (State → Collected) → List ℕ → (message : List ℕ) → List ℕ
-handedMessage call l m = cond (ltb (length m) 28) m (messageInto (call (stateOf l) .message) m)
+handedMessage call l m = cond (ltb (length m) 32) m (messageInto (call (stateOf l) .message) m)
 
 -- collect
 abbrev pub collectNumber : List ℕ → (message : List ℕ) → ℕ

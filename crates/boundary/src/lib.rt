@@ -76,7 +76,7 @@ fn offers_number(x: Offered) -> u64
     n
 }
 
-// Loads the plan that some bytes spell. The refusal's number times 2^32, and its place; 18 times 2^32 where `state` has not 12,492 bytes.
+// Loads the plan that some bytes spell. The refusal's number times 2^32, and its place; 18 times 2^32 where `state` has not 12,748 bytes.
 #[no_mangle]
 pub extern "C" fn moonhalyard_load(plan: &[u8], state: &mut [u8]) -> u64
     ensures is { λ r. ⌜ r ≡ engine.loadNumber (now (plan .entry)) (now (state .entry)) ⌝ }
@@ -90,7 +90,7 @@ pub extern "C" fn moonhalyard_load(plan: &[u8], state: &mut [u8]) -> u64
     pair_of(18, 0)
 }
 
-// Posts a message. The refusal or 0.
+// Posts a message, with the partner to reply to. The refusal or 0.
 #[no_mangle]
 pub extern "C" fn moonhalyard_post(
     state: &mut [u8],
@@ -101,9 +101,10 @@ pub extern "C" fn moonhalyard_post(
     v1: u32,
     v2: u32,
     v3: u32,
+    reply: u32,
 ) -> u32
-    ensures is { λ r. ⌜ r ≡ engine.postNumber (record { partner = partner; operation = operation; count = count; values = v0 ∷ v1 ∷ v2 ∷ v3 ∷ [] }) (now (state .entry)) ⌝ }
-    ensures bytes { λ _. ⌜ now (state .exit) ≡ engine.postBytes (record { partner = partner; operation = operation; count = count; values = v0 ∷ v1 ∷ v2 ∷ v3 ∷ [] }) (now (state .entry)) ⌝ }
+    ensures is { λ r. ⌜ r ≡ engine.postNumber (record { partner = partner; operation = operation; count = count; values = v0 ∷ v1 ∷ v2 ∷ v3 ∷ []; reply = reply }) (now (state .entry)) ⌝ }
+    ensures bytes { λ _. ⌜ now (state .exit) ≡ engine.postBytes (record { partner = partner; operation = operation; count = count; values = v0 ∷ v1 ∷ v2 ∷ v3 ∷ []; reply = reply }) (now (state .entry)) ⌝ }
 {
     let k = store::unpack(&state[..]);
     let values = [v0, v1, v2, v3];
@@ -112,6 +113,7 @@ pub extern "C" fn moonhalyard_post(
         operation,
         count,
         values,
+        reply,
     };
     let r = mail::post(k.state, m);
     if r.refusal == 0 {
@@ -121,14 +123,14 @@ pub extern "C" fn moonhalyard_post(
     r.refusal
 }
 
-// Collects a message into the first 28 bytes of `message`. The refusal or 0; 18 where `message` has fewer.
+// Collects a message into the first 32 bytes of `message`. The refusal or 0; 18 where `message` has fewer.
 #[no_mangle]
 pub extern "C" fn moonhalyard_collect(state: &mut [u8], message: &mut [u8]) -> u32
     ensures is { λ r. ⌜ r ≡ engine.collectNumber (now (state .entry)) (now (message .entry)) ⌝ }
     ensures bytes { λ _. ⌜ now (state .exit) ≡ engine.collectBytes (now (state .entry)) (now (message .entry)) ⌝ }
     ensures message { λ _. ⌜ now (message .exit) ≡ engine.collectMessage (now (state .entry)) (now (message .entry)) ⌝ }
 {
-    if message.len() < 28 {
+    if message.len() < 32 {
         return 18;
     }
     let k = store::unpack(&state[..]);
@@ -141,14 +143,14 @@ pub extern "C" fn moonhalyard_collect(state: &mut [u8], message: &mut [u8]) -> u
     r.refusal
 }
 
-// Drops the message that waits at a place, into the first 28 bytes of `message`. The refusal or 0; 18 where `message` has fewer.
+// Drops the message that waits at a place, into the first 32 bytes of `message`. The refusal or 0; 18 where `message` has fewer.
 #[no_mangle]
 pub extern "C" fn moonhalyard_drop(state: &mut [u8], place: usize, message: &mut [u8]) -> u32
     ensures is { λ r. ⌜ r ≡ engine.dropNumber place (now (state .entry)) (now (message .entry)) ⌝ }
     ensures bytes { λ _. ⌜ now (state .exit) ≡ engine.dropBytes place (now (state .entry)) (now (message .entry)) ⌝ }
     ensures message { λ _. ⌜ now (message .exit) ≡ engine.dropMessage place (now (state .entry)) (now (message .entry)) ⌝ }
 {
-    if message.len() <= 27 {
+    if message.len() <= 31 {
         return 18;
     }
     let k = store::unpack(&state[..]);

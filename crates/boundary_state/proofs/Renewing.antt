@@ -13,7 +13,7 @@ use Rattle.plan.specs.Answers.{tableFor}
 use Rattle.plan.specs.Read.{readPlan}
 use Rattle.store.specs.Bytes.{eightAt}
 use Rattle.store.proofs.Fills.{Filling, filling-starts, filling-more, filling-ends}
-use Rattle.boundary_state.specs.Older.{marked, placed, planEnd, PlanEnds, oldPlan, isAround, partAround, closingByte, orderByte, byteOf, renewedBy, renewed, causeByte, byteWith, withCauses}
+use Rattle.boundary_state.specs.Older.{marked, placed, planEnd, PlanEnds, oldPlan, isAround, partAround, closingByte, orderByte, byteOf, renewedBy, renewed, causeByte, byteWith, withCauses, replyByte, byteNow, withReplies}
 
 -- `is_marked`
 module _ (s : List ℕ) (n m : ℕ) where
@@ -132,7 +132,37 @@ module _ (s : List ℕ) (i : ℕ) where
     unfolding byteWith
     with-order h f = f ∙ rw (ne-eqb _ _ e, le-ltb _ _ h)
 
--- `fill`, `cause`: i bytes are written
+-- `reply_byte`
+module _ (s : List ℕ) (at r : ℕ) where
+  pub reply-before : r < 28 → getD s (at + r) 0 ≡ replyByte s at r
+  unfolding replyByte
+  reply-before h = rw (lt-ltb _ _ h)
+
+  pub reply-none : 28 ≤ r → 0 ≡ replyByte s at r
+  unfolding replyByte
+  reply-none h = rw (le-ltb _ _ h)
+
+-- `byte_now`
+module _ (s : List ℕ) (i : ℕ) where
+  pub now-mark : i ≡ 7 → 52 ≡ byteNow s i
+  unfolding byteNow
+  now-mark e = rw (eq-eqb _ _ e)
+
+  module _ (e : i ≡ 7 → ⊥) where
+    pub now-before : i < 4140 → getD s i 0 ≡ byteNow s i
+    unfolding byteNow
+    now-before h = rw (ne-eqb _ _ e, lt-ltb _ _ h)
+
+    module _ (h : 4140 ≤ i) where
+      pub now-message : {b : ℕ} → i < 6188 → b ≡ replyByte s (4140 + (i - 4140) / 32 * 28) ((i - 4140) % 32) → b ≡ byteNow s i
+      unfolding byteNow
+      now-message g f = f ∙ rw (ne-eqb _ _ e, le-ltb _ _ h, lt-ltb _ _ g)
+
+      pub now-after : 6188 ≤ i → getD s (i - 256) 0 ≡ byteNow s i
+      unfolding byteNow
+      now-after g = rw (ne-eqb _ _ e, le-ltb _ _ h, le-ltb _ _ g)
+
+-- `fill`, `cause`, `reply`: i bytes are written
 pub placed-long : (f : ℕ → ℕ) (n i : ℕ) → length (placed f n i) ≡ n
 unfolding placed
 placed-long f zero i = refl
@@ -167,21 +197,24 @@ pub renewed-long : (s : List ℕ) {o : List ℕ} → o ≡ renewed s → length 
 unfolding renewed
 renewed-long s e = rw e (placed-long (byteOf s (tableFor (readPlan (oldPlan s)))) 12476 0)
 
--- `renew_twice`
-pub twice-is : (s : List ℕ) {m o : List ℕ} → m ≡ renewed s → o ≡ withCauses m → o ≡ withCauses (renewed s)
-twice-is s e f = rw (← e) f
+-- `from_second`, `from_first`
+pub second-is : (s : List ℕ) {m o : List ℕ} → m ≡ withCauses s → o ≡ withReplies m → o ≡ withReplies (withCauses s)
+second-is s e f = rw (← e) f
+
+pub first-is : (s : List ℕ) {m o : List ℕ} → m ≡ renewed s → o ≡ withReplies (withCauses m) → o ≡ withReplies (withCauses (renewed s))
+first-is s e f = rw (← e) f
 
 -- `copy`: i bytes are copied
 pub record Same (s out : List ℕ) (i : ℕ) : Type 0 where
-  pub filling : Filling 12492 out i (drop i s) s
-  pub long : length s ≡ 12492
+  pub filling : Filling 12748 out i (drop i s) s
+  pub long : length s ≡ 12748
 
-pub same-starts : (s out : List ℕ) → length s ≡ 12492 → length out ≡ 12492 → Same s out 0
-same-starts s out e f = record { filling = filling-starts 12492 out s s f e refl; long = e }
+pub same-starts : (s out : List ℕ) → length s ≡ 12748 → length out ≡ 12748 → Same s out 0
+same-starts s out e f = record { filling = filling-starts 12748 out s s f e refl; long = e }
 
 module _ {s out : List ℕ} {i : ℕ} (w : Same s out i) where
-  pub same-again : i < 12492 → Same s (set out i (getD s i 0)) (i + 1)
+  pub same-again : i < 12748 → Same s (set out i (getD s i 0)) (i + 1)
   same-again h = record { filling = filling-more (w .filling) (rw (add-one, drop-cons s i 0 (omega (arith, w .long)))); long = w .long }
 
-  pub same-done : 12492 ≤ i → out ≡ s
+  pub same-done : 12748 ≤ i → out ≡ s
   same-done h = let k : length s ≤ i = omega (arith, w .long) in filling-ends (w .filling) (drop-of-length-le s k)

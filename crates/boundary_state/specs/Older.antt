@@ -1,5 +1,5 @@
--- Meaning: a state of an older version as one of the next: of the first, MOONHAL1, as one of the second, MOONHAL2, and of that as one of today. Assumes nothing: these are
--- definitions. All stands at the same place up to the orders, from 5,932 on.
+-- Meaning: a state of an older version as one of the next: of the first, MOONHAL1, as one of the second, MOONHAL2, of that as one of the third, MOONHAL3, and of that as one
+-- of today. Assumes nothing: these are definitions. Up to the third all stands at the same place before the orders, from 5,932 on.
 use Prim.Native.Nat.{ℕ, zero, suc, _+_, _*_, _-_, _/_, _%_, _≤_}
 use mathlib.Core.Bool.{Bool, cond, _&&_}
 use mathlib.Core.List.{List, [], _∷_}
@@ -14,18 +14,24 @@ use Rattle.store.specs.Bytes.{valued, eightAt}
 unfoldable pub marked : (size mark : ℕ) → List ℕ → Bool
 marked n m s = eqb (length s) n && eqb (eightAt s 0) m
 
--- "MOONHAL1" and "MOONHAL2"
+-- "MOONHAL1", "MOONHAL2" and "MOONHAL3"
 abbrev pub firstMark : List ℕ
 firstMark = 77 ∷ 79 ∷ 79 ∷ 78 ∷ 72 ∷ 65 ∷ 76 ∷ 49 ∷ []
 
 abbrev pub secondMark : List ℕ
 secondMark = 77 ∷ 79 ∷ 79 ∷ 78 ∷ 72 ∷ 65 ∷ 76 ∷ 50 ∷ []
 
+abbrev pub thirdMark : List ℕ
+thirdMark = 77 ∷ 79 ∷ 79 ∷ 78 ∷ 72 ∷ 65 ∷ 76 ∷ 51 ∷ []
+
 abbrev pub holdsFirst : List ℕ → Bool
 holdsFirst s = marked 11964 (valued firstMark) s
 
 abbrev pub holdsSecond : List ℕ → Bool
 holdsSecond s = marked 12476 (valued secondMark) s
+
+abbrev pub holdsThird : List ℕ → Bool
+holdsThird s = marked 12492 (valued thirdMark) s
 
 -- n bytes from the place i on
 unfoldable pub placed : (byte : ℕ → ℕ) → (n i : ℕ) → List ℕ
@@ -78,7 +84,7 @@ renewedBy s t = placed (byteOf s t) 12476 0
 unfoldable pub renewed : List ℕ → List ℕ
 renewed s = renewedBy s (tableFor (readPlan (oldPlan s)))
 
--- FROM THE SECOND TO THIS. An order has 409 bytes there and 410 now: behind them stands the number of the fault that the root faulted with. None was kept, so it is 0, also
+-- FROM THE SECOND TO THE THIRD. An order has 409 bytes there and 410 then: behind them stands the number of the fault that the root faulted with. None was kept, so it is 0, also
 -- where the root has faulted.
 
 -- a byte of an order, whose bytes start at `at` in the second version
@@ -91,3 +97,20 @@ byteWith s i = cond (eqb i 7) 51 (cond (ltb i 5932) (getD s i 0) (causeByte s (5
 
 abbrev pub withCauses : List ℕ → List ℕ
 withCauses s = placed (byteWith s) 12492 0
+
+-- FROM THE THIRD TO THIS. A message has 28 bytes there and 32 now: behind them stand the four of the partner to reply to. None was kept, so they are 0, and the orders
+-- stand 256 bytes further on.
+
+-- a byte of a message, whose bytes start at `at` in the third version
+unfoldable pub replyByte : List ℕ → (at within : ℕ) → ℕ
+replyByte s at r = cond (ltb r 28) (getD s (at + r) 0) 0
+
+-- a byte of the state: the mark ends in 4, and all before the messages and all behind them is as it was
+unfoldable pub byteNow : List ℕ → (place : ℕ) → ℕ
+byteNow s i =
+    cond (eqb i 7) 52
+    (cond (ltb i 4140) (getD s i 0)
+    (cond (ltb i 6188) (replyByte s (4140 + (i - 4140) / 32 * 28) ((i - 4140) % 32)) (getD s (i - 256) 0)))
+
+abbrev pub withReplies : List ℕ → List ℕ
+withReplies s = placed (byteNow s) 12748 0

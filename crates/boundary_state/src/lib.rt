@@ -14,24 +14,28 @@ pub extern "C" fn moonhalyard_version() -> u32
     10000
 }
 
-// Brings the state that `old` holds, of whatever version, into `state`. 0; 17 where it holds none; 18 where `state` has not 12,492 bytes.
+// Brings the state that `old` holds, of whatever version, into `state`. 0; 17 where it holds none; 18 where `state` has not 12,748 bytes.
 #[no_mangle]
 pub extern "C" fn moonhalyard_upgrade(old: &[u8], state: &mut [u8]) -> u32
     ensures is { λ r. ⌜ r ≡ upgradeNumber (now (old .entry)) (now (state .entry)) ⌝ }
     ensures bytes { λ _. ⌜ now (state .exit) ≡ upgradeBytes (now (old .entry)) (now (state .entry)) ⌝ }
 {
-    if state.len() != 12492 {
+    if state.len() != 12748 {
         return 18;
     }
     if older::is_marked(old, 11964, 3552285984895749965) {
-        older::renew_twice(old, state);
+        older::from_first(old, state);
         return 0;
     }
     if older::is_marked(old, 12476, 3624343578933677901) {
-        older::cause(old, state);
+        older::from_second(old, state);
         return 0;
     }
     if older::is_marked(old, 12492, 3696401172971605837) {
+        older::reply(old, state);
+        return 0;
+    }
+    if older::is_marked(old, 12748, 3768458767009533773) {
         older::copy(old, state);
         return 0;
     }

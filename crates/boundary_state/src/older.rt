@@ -1,5 +1,6 @@
 // A state of an older version as one of the next. In the first, MOONHAL1, a closing was one byte, the number of its scope, and takes two in the second, MOONHAL2, the
-// other the part that it is remembered for, which the plan tells. In that an order has no cause, which takes a byte now.
+// other the part that it is remembered for, which the plan tells. In that an order has no cause, which takes a byte in the third, MOONHAL3. In that a message has no
+// partner to reply to, which takes four now.
 use plan::kind;
 use plan::table::END;
 use plan::table::LENGTH;
@@ -10,7 +11,7 @@ ghost use lib.Dec.{eqb, leb, ltb};
 ghost use lib.ListN.{length};
 ghost use mathlib.Core.Bool.{cond, _&&_};
 ghost use mathlib.Core.Path.{_≡_};
-ghost use Rattle.boundary_state.specs.Older.{marked, PlanEnds, isAround, partAround, closingByte, orderByte, byteOf, renewedBy, renewed, causeByte, byteWith, withCauses};
+ghost use Rattle.boundary_state.specs.Older.{marked, PlanEnds, isAround, partAround, closingByte, orderByte, byteOf, renewedBy, renewed, causeByte, byteWith, withCauses, replyByte, byteNow, withReplies};
 
 // Whether there are `size` bytes, with this mark in front.
 pub(crate) fn is_marked(old: &[u8], size: usize, mark: usize) -> bool
@@ -135,7 +136,7 @@ fn cause_byte(old: &[u8], at: usize, within: usize) -> u8
     0
 }
 
-// A byte of the state of today.
+// A byte of the state of the third version.
 fn byte_with(old: &[u8], i: usize) -> u8
     requires { ⌜ (length (now old) ≡ 12476) × (i < 12492) ⌝ }
     ensures { λ r. ⌜ r ≡ byteWith (now (old .entry)) i ⌝ }
@@ -150,8 +151,8 @@ fn byte_with(old: &[u8], i: usize) -> u8
     cause_byte(old, 5932 + n / 410 * 409, n % 410)
 }
 
-// A state of the second version as one of today.
-pub(crate) fn cause(old: &[u8], state: &mut [u8])
+// A state of the second version as one of the third.
+fn cause(old: &[u8], state: &mut [u8])
     requires { ⌜ (length (now old) ≡ 12476) × (length (now state) ≡ 12492) ⌝ }
     ensures { λ _. ⌜ now (state .exit) ≡ withCauses (now (old .entry)) ⌝ }
 {
@@ -162,23 +163,74 @@ pub(crate) fn cause(old: &[u8], state: &mut [u8])
     }
 }
 
+// A byte of a message, whose bytes start at `at` in the third version.
+fn reply_byte(old: &[u8], at: usize, within: usize) -> u8
+    requires { ⌜ (length (now old) ≡ 12492) × (at ≤ 5904) × (within < 32) ⌝ }
+    ensures { λ r. ⌜ r ≡ replyByte (now (old .entry)) at within ⌝ }
+{
+    if within < 28 {
+        return old[at + within];
+    }
+    0
+}
+
+// A byte of the state of today.
+fn byte_now(old: &[u8], i: usize) -> u8
+    requires { ⌜ (length (now old) ≡ 12492) × (i < 12748) ⌝ }
+    ensures { λ r. ⌜ r ≡ byteNow (now (old .entry)) i ⌝ }
+{
+    if i == 7 {
+        return 52;
+    }
+    if i < 4140 {
+        return old[i];
+    }
+    if i < 6188 {
+        let n = i - 4140;
+        return reply_byte(old, 4140 + n / 32 * 28, n % 32);
+    }
+    old[i - 256]
+}
+
+// A state of the third version as one of today.
+pub(crate) fn reply(old: &[u8], state: &mut [u8])
+    requires { ⌜ (length (now old) ≡ 12492) × (length (now state) ≡ 12748) ⌝ }
+    ensures { λ _. ⌜ now (state .exit) ≡ withReplies (now (old .entry)) ⌝ }
+{
+    let mut i: usize = 0;
+    while i < 12748 {
+        state[i] = byte_now(old, i);
+        i += 1;
+    }
+}
+
+// A state of the second version as one of today.
+pub(crate) fn from_second(old: &[u8], state: &mut [u8])
+    requires { ⌜ (length (now old) ≡ 12476) × (length (now state) ≡ 12748) ⌝ }
+    ensures { λ _. ⌜ now (state .exit) ≡ withReplies (withCauses (now (old .entry))) ⌝ }
+{
+    let mut third = [0u8; 12492];
+    cause(old, &mut third);
+    reply(&third, state);
+}
+
 // A state of the first version as one of today.
-pub(crate) fn renew_twice(old: &[u8], state: &mut [u8])
-    requires { ⌜ (length (now old) ≡ 11964) × (length (now state) ≡ 12492) ⌝ }
-    ensures { λ _. ⌜ now (state .exit) ≡ withCauses (renewed (now (old .entry))) ⌝ }
+pub(crate) fn from_first(old: &[u8], state: &mut [u8])
+    requires { ⌜ (length (now old) ≡ 11964) × (length (now state) ≡ 12748) ⌝ }
+    ensures { λ _. ⌜ now (state .exit) ≡ withReplies (withCauses (renewed (now (old .entry)))) ⌝ }
 {
     let mut second = [0u8; 12476];
     renew(old, &mut second);
-    cause(&second, state);
+    from_second(&second, state);
 }
 
 // A state of today as it is.
 pub(crate) fn copy(old: &[u8], state: &mut [u8])
-    requires { ⌜ (length (now old) ≡ 12492) × (length (now state) ≡ 12492) ⌝ }
+    requires { ⌜ (length (now old) ≡ 12748) × (length (now state) ≡ 12748) ⌝ }
     ensures { λ _. ⌜ now (state .exit) ≡ now (old .entry) ⌝ }
 {
     let mut i: usize = 0;
-    while i < 12492 {
+    while i < 12748 {
         state[i] = old[i];
         i += 1;
     }

@@ -57,7 +57,7 @@ fn is_ordinary(fd: i32) -> bool {
 
 // Whether an ordinary file begins with a saved state, of whatever version, that has a plan.
 fn has_plan(fd: i32) -> bool {
-    let mut front = [0u8; 12492];
+    let mut front = [0u8; 12748];
     libc::lseek(fd, 0, SEEK_SET);
     let n = io::read_full(fd, &mut front);
     let kept = papers::kept_front(&front[..n]);
@@ -115,7 +115,7 @@ pub(crate) fn kind_of(file: &[u8]) -> Kind {
 }
 
 fn sum_in(fd: i32) -> u64 {
-    let mut packed = [0u8; 29405];
+    let mut packed = [0u8; papers::READ];
     let n = io::read_full(fd, &mut packed);
     libc::close(fd);
     papers::sum_of(&packed[..n])

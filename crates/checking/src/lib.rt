@@ -2,6 +2,7 @@
 // warnings is a plan: what is warned of is what it does, and seldom what was meant.
 mod binding;
 mod numbering;
+mod partners;
 mod reaching;
 mod rivals;
 mod sending;

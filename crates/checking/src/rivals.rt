@@ -80,7 +80,8 @@ fn are_beside(table: &Table, a: usize, j: usize, k: usize) -> bool {
 // Whether what stands at n begins as soon as activity m around it does.
 fn begins(table: &Table, m: usize, n: usize) -> bool {
     match entry(table, m, KIND) {
-        kind::SEQUENCE | kind::SCOPE | kind::OPEN_SCOPE | kind::NUMBERED_SCOPE => n < end_of(table, after(m)),
+        kind::SEQUENCE | kind::SCOPE | kind::OPEN_SCOPE | kind::NUMBERED_SCOPE => n
+            < end_of(table, after(m)),
         kind::FLOW | kind::PICK => true,
         _ => false,
     }

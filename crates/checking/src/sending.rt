@@ -1,4 +1,5 @@
 // Messages that never leave, and messages that nothing takes.
+use super::partners::partner_of;
 use drawing::entry;
 use plan::kind;
 use plan::table::COUNT;
@@ -9,18 +10,19 @@ use plan::table::PARTNERS;
 use plan::table::Table;
 
 // Whether the plan receives on a partner.
-fn is_heard(table: &Table, partner: u32) -> bool {
+fn is_heard(table: &Table, partner: u64) -> bool {
     if partner < 64 {
         return table[PARTNERS + partner as usize] == 1;
     }
     false
 }
 
+// Whether an activity of this kind takes messages.
 pub(crate) fn is_receive(kind: u32) -> bool {
-    if kind == kind::RECEIVE {
-        return true;
+    match kind {
+        kind::RECEIVE | kind::ASKING_RECEIVE | kind::ARM => true,
+        _ => false,
     }
-    kind == kind::ARM
 }
 
 // Whether row n is a receive or an arm that takes such a message, its values apart.
@@ -48,20 +50,25 @@ pub fn is_ever_taken(table: &Table, partner: u32, operation: u32, count: u32) ->
     false
 }
 
+// A partner of the plan as a number of its table.
+fn narrow(partner: u64) -> u32 {
+    if partner < 64 {
+        return partner as u32;
+    }
+    64
+}
+
 fn is_sent_taken(table: &Table, n: usize) -> bool {
     is_ever_taken(
         table,
-        entry(table, n, PARTNER),
+        narrow(partner_of(table, n)),
         entry(table, n, OPERATION),
         entry(table, n, COUNT),
     )
 }
 
 fn is_sent_home(table: &Table, n: usize) -> bool {
-    if entry(table, n, KIND) == kind::SEND {
-        return is_heard(table, entry(table, n, PARTNER));
-    }
-    false
+    is_heard(table, partner_of(table, n))
 }
 
 // Whether activity n sends to a partner that the plan receives on: what it sends never leaves, and the plan itself takes it.

@@ -1,5 +1,6 @@
 // Scopes that swallow a fault: their fault part is empty, and the order goes on behind them as if nothing had been.
 use super::binding::may_lack_one;
+use super::partners::may_have_none;
 use super::rivals::is_contested;
 use super::uses::computes;
 use super::ways::part_in;
@@ -21,7 +22,8 @@ fn is_raise(kind: u32) -> bool {
     }
 }
 
-// Whether activity n may fault: a raise, a sum or difference, a variable that may be unbound, or a receive beside another for the same thing.
+// Whether activity n may fault: a raise, a sum or difference, a variable that may be unbound or hold no partner, or a receive beside another for the same
+// thing.
 fn may_fault(table: &Table, n: usize) -> bool {
     if is_raise(entry(table, n, KIND)) {
         return true;
@@ -30,6 +32,9 @@ fn may_fault(table: &Table, n: usize) -> bool {
         return true;
     }
     if is_contested(table, n) {
+        return true;
+    }
+    if may_have_none(table, n) {
         return true;
     }
     may_lack_one(table, n)

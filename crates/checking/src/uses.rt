@@ -120,10 +120,19 @@ pub(crate) fn computes(table: &Table, n: usize) -> bool {
     }
 }
 
-// Whether activity n uses variable v: a send that sends it, or an expression that it stands in.
+// Whether variable v stands in the tuple of row n, or is the one beside it: that of the partner, or of whom to reply to.
+fn is_in_message(table: &Table, n: usize, v: u32) -> bool {
+    if entry(table, n, VARIABLE) == v {
+        return true;
+    }
+    is_in_tuple(table, n, v)
+}
+
+// Whether activity n uses variable v: a send that sends it or goes to the partner in it, or an expression that it stands in.
 pub(crate) fn uses(table: &Table, n: usize, v: u32) -> bool {
     match entry(table, n, KIND) {
         kind::SEND => is_in_tuple(table, n, v),
+        kind::HELD_SEND => is_in_message(table, n, v),
         kind::SET | kind::CHOOSE | kind::REPEAT => is_in_expression(
             table,
             entry(table, n, EXPRESSION) as usize,
@@ -133,10 +142,11 @@ pub(crate) fn uses(table: &Table, n: usize, v: u32) -> bool {
     }
 }
 
-// Whether activity or arm n binds variable v: a receive or an arm that takes it, or a set.
+// Whether activity or arm n binds variable v: a receive or an arm that takes it, a receive that stores whom to reply to in it, or a set.
 pub(crate) fn binds(table: &Table, n: usize, v: u32) -> bool {
     match entry(table, n, KIND) {
         kind::RECEIVE | kind::ARM => is_in_tuple(table, n, v),
+        kind::ASKING_RECEIVE => is_in_message(table, n, v),
         kind::SET => entry(table, n, VARIABLE) == v,
         _ => false,
     }

@@ -1,6 +1,7 @@
 // The warnings in words: `warning ACTIVITY - what it is - what is wrong with it`.
 use super::binding::is_unbound;
 use super::numbering::never_runs;
+use super::partners::has_none;
 use super::reaching::is_cut_off;
 use super::reaching::is_passed_by;
 use super::rivals::is_contested;
@@ -20,7 +21,7 @@ use drawing::put_pair;
 use drawing::put_variable;
 use plan::table::Table;
 
-// What is warned of has a number: 0 to 6, for each of eight fault parts by number 7 more, and for each of 16 variables 16 and 32 more.
+// What is warned of has a number: 0 to 6 and 15, for each of eight fault parts by number 7 more, and for each of 16 variables 16 and 32 more.
 fn is_of_variable(table: &Table, correlation: &[u8; 16], n: usize, what: u32) -> bool {
     if what < 16 {
         return false;
@@ -50,6 +51,7 @@ fn is_earned(table: &Table, correlation: &[u8; 16], n: usize, what: u32) -> bool
         5 => is_passed_by(table, n),
         6 => is_contested(table, n),
         7..=14 => never_runs(table, n, part_of(what)),
+        15 => has_none(table, n),
         _ => is_of_variable(table, correlation, n, what),
     }
 }
@@ -137,6 +139,11 @@ fn put_words(
         ),
         6 => put_rival(out, used, rival_of(table, n)),
         7..=14 => put_never_runs(out, used, names, number_at(table, n, part_of(what))),
+        15 => put(
+            out,
+            used,
+            b"no partner has the number that this variable is set to, so this faults: partners are 0 to 63",
+        ),
         _ => put_variable_words(out, used, names, what),
     }
 }

@@ -1,7 +1,11 @@
 // The commands that change a state: post, step, run and collect.
 use super::answering::wrong;
 use super::lists::Numbers;
+use super::lists::Reply;
+use super::lists::before;
 use super::lists::numbers_of;
+use super::lists::reply_in;
+use super::lists::reply_of;
 use super::lists::rest_of;
 use commands::Trouble;
 use drawing::put;
@@ -18,6 +22,7 @@ use order::End;
 use papers::Desk;
 use papers::changed;
 use run::Ran;
+use text::Word;
 use wording::put_message;
 
 // A count as a message has it.
@@ -28,13 +33,14 @@ fn narrow(count: usize) -> u32 {
     1000
 }
 
-// Partner, operation and values. Those beyond the fourth only count.
-pub fn message_of(numbers: &[u32; 1001], count: usize) -> Message {
+// Partner, operation and values, and the partner to reply to. Values beyond the fourth only count.
+pub fn message_of(numbers: &[u32; 1001], count: usize, reply: u32) -> Message {
     Message {
         partner: numbers[0],
         operation: numbers[1],
         count: narrow(count),
         values: [numbers[2], numbers[3], numbers[4], numbers[5]],
+        reply,
     }
 }
 
@@ -47,7 +53,30 @@ fn posted(desk: Desk, m: Message, out: &mut [u8; 4096]) -> Desk {
     changed(desk, state, tally, desk.plan, used)
 }
 
-// Posts a message: a partner, an operation, and up to eight values.
+// Posts a message by its numbers, so many of them; its partner to reply to stands behind the word `reply` of the line.
+fn posted_with(
+    desk: Desk,
+    line: &[u8],
+    reply: Word,
+    number: u64,
+    numbers: &[u32; 1001],
+    count: usize,
+    out: &mut [u8; 4096],
+) -> Desk {
+    if count < 2 {
+        return wrong(desk, number, Trouble::Missing, out);
+    }
+    let r = reply_of(line, reply);
+    match r {
+        Reply::Wrong { why } => wrong(desk, number, why, out),
+        Reply::Partner { number: partner } => {
+            let m = message_of(numbers, count - 2, partner);
+            posted(desk, m, out)
+        }
+    }
+}
+
+// Posts a message: a partner, an operation, and up to eight values; then the partner to reply to, where one is named.
 pub(crate) fn post(
     desk: Desk,
     line: &[u8],
@@ -56,16 +85,11 @@ pub(crate) fn post(
     out: &mut [u8; 4096],
 ) -> Desk {
     let mut numbers = [0u32; 1001];
-    let n = numbers_of(line, from, 11, &mut numbers);
+    let reply = reply_in(line, from);
+    let n = numbers_of(before(line, reply.from), from, 11, &mut numbers);
     match n {
         Numbers::Wrong { why } => wrong(desk, number, why, out),
-        Numbers::All { count } => {
-            if count < 2 {
-                return wrong(desk, number, Trouble::Missing, out);
-            }
-            let m = message_of(&numbers, count - 2);
-            posted(desk, m, out)
-        }
+        Numbers::All { count } => posted_with(desk, line, reply, number, &numbers, count, out),
     }
 }
 

@@ -150,6 +150,21 @@ fn put_tuple(
     put_another(out, third, names, table, correlation, n, 3)
 }
 
+// Operation and variables of row n, after whom the message is for or from.
+fn put_about(
+    out: &mut [u8; 4096],
+    used: usize,
+    names: &[u8; 16896],
+    table: &Table,
+    correlation: &[u8; 16],
+    n: usize,
+) -> usize {
+    let mut at = put(out, used, b", operation ");
+    at = put_operation(out, at, names, entry(table, n, OPERATION));
+    at = put(out, at, b": ");
+    put_tuple(out, at, names, table, correlation, n)
+}
+
 // Partner, operation and variables of row n, after the words that say what is done.
 fn put_exchange(
     out: &mut [u8; 4096],
@@ -163,10 +178,41 @@ fn put_exchange(
     let mut at = put(out, used, words);
     at = put(out, at, b" partner ");
     at = put_partner(out, at, names, entry(table, n, PARTNER));
-    at = put(out, at, b", operation ");
-    at = put_operation(out, at, names, entry(table, n, OPERATION));
-    at = put(out, at, b": ");
-    put_tuple(out, at, names, table, correlation, n)
+    put_about(out, at, names, table, correlation, n)
+}
+
+// A send to the partner that a variable holds, and whom it asks to reply to: nothing is said of 0, which every other send carries.
+fn put_held_send(
+    out: &mut [u8; 4096],
+    used: usize,
+    names: &[u8; 16896],
+    table: &Table,
+    correlation: &[u8; 16],
+    n: usize,
+) -> usize {
+    let mut at = put(out, used, b"send to the partner in ");
+    at = put_member(out, at, names, correlation, entry(table, n, VARIABLE));
+    at = put_about(out, at, names, table, correlation, n);
+    let reply = entry(table, n, PARTNER);
+    if reply == 0 {
+        return at;
+    }
+    at = put(out, at, b" with reply to partner ");
+    put_partner(out, at, names, reply)
+}
+
+// A receive that stores whom to reply to.
+fn put_asking_receive(
+    out: &mut [u8; 4096],
+    used: usize,
+    names: &[u8; 16896],
+    table: &Table,
+    correlation: &[u8; 16],
+    n: usize,
+) -> usize {
+    let mut at = put_exchange(out, used, names, b"receive from", table, correlation, n);
+    at = put(out, at, b" with reply to into ");
+    put_variable(out, at, names, entry(table, n, VARIABLE))
 }
 
 // Words, and then the expression of row n.
@@ -252,7 +298,9 @@ pub fn put_activity(
     match kind {
         kind::EMPTY => put(out, used, b"empty"),
         kind::SEND => put_exchange(out, used, names, b"send to", table, correlation, n),
+        kind::HELD_SEND => put_held_send(out, used, names, table, correlation, n),
         kind::RECEIVE => put_exchange(out, used, names, b"receive from", table, correlation, n),
+        kind::ASKING_RECEIVE => put_asking_receive(out, used, names, table, correlation, n),
         kind::SET => put_set(out, used, names, table, n),
         kind::RAISE => put(out, used, b"raise"),
         kind::NUMBERED_RAISE => put_raise(out, used, names, table, n),

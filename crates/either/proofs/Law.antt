@@ -10,7 +10,7 @@ use lib.ListN.{getD}
 use lib.Dec.{eqb, leb}
 use borrow.Author.Tests.{eq-eqb, eqb-true}
 use Rattle.plan.specs.Found.{among}
-use Rattle.plan.specs.Tree.{empty, send, receive, set as setting, raise, leave, choose, repeat, sequence, flow, pick, scope, arm, kind, Plan}
+use Rattle.plan.specs.Tree.{toPartner, toHeld, From, fromPartner, fromAsking, partnerFrom, empty, send, receive, set as setting, raise, leave, choose, repeat, sequence, flow, pick, scope, arm, kind, Plan}
 use Rattle.plan.proofs.Accepts.{both}
 use Rattle.order.specs.declared.Order.{Order}
 use Rattle.order.specs.Acting.{startedOrder}
@@ -31,8 +31,10 @@ use Rattle.either.proofs.Ready.{ready-does, eager-does}
 pub independent-codes : IndependentCodes
 unfolding IndependentCodes independent doingOf kind among
 independent-codes empty l k = refl
-independent-codes (send p o vs) l k = refl
-independent-codes (receive p o vs) l k = refl
+independent-codes (send (toPartner p) o vs) l k = refl
+independent-codes (send (toHeld v r) o vs) l k = refl
+independent-codes (receive (fromPartner p) o vs) l k = refl
+independent-codes (receive (fromAsking p v) o vs) l k = refl
 independent-codes (setting v e) l k = refl
 independent-codes (raise zero) l k = refl
 independent-codes (raise (suc number)) l k = refl
@@ -63,7 +65,7 @@ not-true true e = sym e
 not-true false e = refl
 
 -- no take is independent
-never : {A : Type 0} {a b : ℕ} {vs : List ℕ} (d : Doing) → d ≡ takes a b vs → independent d ≡ true → A
+never : {A : Type 0} {a : From} {b : ℕ} {vs : List ℕ} (d : Doing) → d ≡ takes a b vs → independent d ≡ true → A
 unfolding independent
 never {a = a} {b} {vs} d e h = absurd (let y : independent (takes a b vs) ≡ true = ap independent (sym e) ∙ h in let z : _≡_ {A = ℕ} 0 1 = cc in omega arith)
 
@@ -90,9 +92,9 @@ module _ (p : Plan) (w : ℕ) (l : List Letter) (i : ℕ) (o : Order) (k : ℕ) 
   step-in : (d : Doing) {x : Offer} → List·Memᴰ x (stepOffers p w l i o k d .offered) → Entry i o k d x
   unfolding stepOffers closeWaits
   step-in noStep m = absurd (List·Memᴰ·not-nil m)
-  step-in (sends a b vs) m = lone-in (sends a b vs) (sendHeld w o vs) (λ e. refl) m
+  step-in (sends a b vs) m = lone-in (sends a b vs) (sendHeld w o a vs) (λ e. refl) m
   step-in (takes a b vs) m =
-      let r = in-map (λ (y : Letter). offering i k (y .place)) (only (mayTake p o a b vs) l) m in
+      let r = in-map (λ (y : Letter). offering i k (y .place)) (only (mayTake p o (partnerFrom a) b vs) l) m in
       record {
         slot = ap (λ (z : Offer). z .slot) (r .holds);
         activity = ap (λ (z : Offer). z .activity) (r .holds);
@@ -185,7 +187,7 @@ module _ (p : Plan) (s : State) (x : Offer) (h : independentAt p x ≡ true) whe
   unfolding startOf
   start-never o y k a noStep m e f = absurd (List·Memᴰ·not-nil m)
   start-never o y k a (sends b c vs) m e f = absurd (List·Memᴰ·not-nil m)
-  start-never {A} o y k a (takes b c vs) m e f = go (fits p o b c vs (y .message)) m
+  start-never {A} o y k a (takes b c vs) m e f = go (fits p o (partnerFrom b) c vs (y .message)) m
     where
       go : (b : Bool) → List·Memᴰ k (cond b (a ∷ []) []) → A
       go true n = never (doingAt p (x .activity)) (ap (doingAt p) (f ∙ List·Memᴰ·eq-of-singleton n) ∙ sym e) h

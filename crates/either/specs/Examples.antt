@@ -29,7 +29,7 @@ reached (dropping i ∷ l) s = reached l (dropAt i s .state)
 reached (stepping c ∷ l) s = reached l (step c s noTally .state)
 
 abbrev pub holding : (partner operation : ℕ) → List ℕ → Message
-holding p o l = record { partner = p; operation = o; count = length l; values = stored 4 l }
+holding p o l = record { partner = p; operation = o; count = length l; values = stored 4 l; reply = 0 }
 
 -- the offer as numbers: slot, activity and place of each entry
 unfoldable pub entries : List Offer → List ℕ

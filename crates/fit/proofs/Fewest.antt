@@ -11,7 +11,7 @@ use lib.Dec.{eqb, ltb, leb}
 use lib.ListN.{length, getD, drop, set, replicate, length-replicate, getD-replicate, length-set, drop-of-length-le}
 use lib.Seq.{drop-cons, getD-set-same, getD-set-other}
 use Rattle.plan.specs.Spells.{variablesOf}
-use Rattle.plan.specs.Tree.{Own, empty, send, receive, set as setting, raise, leave, choose, repeat, sequence, flow, pick, scope, arm, kind, Act, act, Acts, none, more, Plan, size}
+use Rattle.plan.specs.Tree.{partnerFrom, Own, empty, send, receive, set as setting, raise, leave, choose, repeat, sequence, flow, pick, scope, arm, kind, Act, act, Acts, none, more, Plan, size}
 use Rattle.machine.specs.declared.Message.{Message}
 use Rattle.order.specs.declared.Order.{Order}
 use Rattle.fit.specs.Answering.{Exchange, Asking, AsksRow, FitsRow, UncheckedRow, KnowsOrder, messageAt, Picks, fitsOwn, catches}
@@ -123,7 +123,7 @@ fitting-line : (p : Plan) (o : Order) (m : Message) (own : Own) (w : Acts) (k c 
 unfolding doingOf fitting fitsOwn variablesOf folded
 fitting-line p o m empty w k c = refl
 fitting-line p o m (send a b vs) w k c = refl
-fitting-line p o m (receive a b vs) w k c = one-fitting (fits p o a b vs m) (unchecked p o vs) c
+fitting-line p o m (receive a b vs) w k c = one-fitting (fits p o (partnerFrom a) b vs m) (unchecked p o vs) c
 fitting-line p o m (setting v e) w k c = refl
 fitting-line p o m (raise zero) w k c = refl
 fitting-line p o m (raise (suc number)) w k c = refl

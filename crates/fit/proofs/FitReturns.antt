@@ -41,57 +41,62 @@ module _ (m : Message) (long : length (m .values) ≡ 4) where
   unfolding numberOf
   number-count e = record { long = long; is = λ h. rw e }
 
-  pub number-value : {i : ℕ} → (i ≡ 0 → ⊥) → (i ≡ 1 → ⊥) → (i ≡ 2 → ⊥) → Numbers m i (getD (m .values) (i - 3) 0)
+  pub number-value : {i : ℕ} → (i ≡ 0 → ⊥) → (i ≡ 1 → ⊥) → (i ≡ 2 → ⊥) → i < 7 → Numbers m i (getD (m .values) (i - 3) 0)
   unfolding numberOf
-  number-value {i} x y z = record { long = long; is = λ h. rw (ne-eqb i 0 x, ne-eqb i 1 y, ne-eqb i 2 z) }
+  number-value {i} x y z g = record { long = long; is = λ h. rw (ne-eqb i 0 x, ne-eqb i 1 y, ne-eqb i 2 z, ne-eqb i 7 (λ q. omega arith)) }
 
-  pub number-none : {i : ℕ} → 7 ≤ i → Numbers m i 0
-  number-none g = record { long = long; is = λ h. absurd (omega arith) }
+  pub number-reply : {i : ℕ} → i ≡ 7 → Numbers m i (m .reply)
+  unfolding numberOf
+  number-reply e = record { long = long; is = λ h. rw e }
+
+  pub number-none : {i : ℕ} → 7 ≤ i → (i ≡ 7 → ⊥) → Numbers m i 0
+  number-none g x = record { long = long; is = λ h. absurd (omega (arith, x)) }
 
 -- `letters_of`
 pub record Numbered (messages : List Message) (i r : ℕ) : Type 0 where
-  pub is : Numbers (getD messages (i / 7) noMessage) (i % 7) r
+  pub is : Numbers (getD messages (i / 8) noMessage) (i % 8) r
 
-pub writing-again : {messages : List Message} {n : ℕ} {out : List ℕ} {i : ℕ} → Filling (Numbered messages) 448 out i → length messages ≡ 64 → (d : Message) → i < n * 7 → n ≤ 64
-    → {r : ℕ} → Numbers (getD messages (i / 7) d) (i % 7) r → Filling (Numbered messages) 448 (set out i r) (i + 1)
+pub writing-again : {messages : List Message} {n : ℕ} {out : List ℕ} {i : ℕ} → Filling (Numbered messages) 512 out i → length messages ≡ 64 → (d : Message) → i < n * 8 → n ≤ 64
+    → {r : ℕ} → Numbers (getD messages (i / 8) d) (i % 8) r → Filling (Numbered messages) 512 (set out i r) (i + 1)
 writing-again {messages} {n} {i = i} w e d h few {r} y =
-    let g : i / 7 < length messages = omega arith in
-    filling-again w (omega arith) (record { is = rw (getD-any messages (i / 7) noMessage d g) y })
+    let g : i / 8 < length messages = omega arith in
+    filling-again w (omega arith) (record { is = rw (getD-any messages (i / 8) noMessage d g) y })
 
-module _ (messages : List Message) (out : List ℕ) (n : ℕ) (f : (i : ℕ) → i < n * 7 → Numbered messages i (getD out i 0)) (j : ℕ) (h : j < n) where
-  number-at : (c i : ℕ) → c < 7 → i ≡ j * 7 + c → Numbers (getD messages j noMessage) c (getD out i 0)
+module _ (messages : List Message) (out : List ℕ) (n : ℕ) (f : (i : ℕ) → i < n * 8 → Numbered messages i (getD out i 0)) (j : ℕ) (h : j < n) where
+  number-at : (c i : ℕ) → c < 8 → i ≡ j * 8 + c → Numbers (getD messages j noMessage) c (getD out i 0)
   number-at c i g e =
-      let a : i / 7 ≡ j = omega arith in
-      let b : i % 7 ≡ c = omega arith in
+      let a : i / 8 ≡ j = omega arith in
+      let b : i % 8 ≡ c = omega arith in
       rw (a, b) at (f i (omega arith) .is)
 
-  number-says : (c i : ℕ) → c < 7 → i ≡ j * 7 + c → numberOf (getD messages j noMessage) c ≡ getD out i 0
+  number-says : (c i : ℕ) → c < 8 → i ≡ j * 8 + c → numberOf (getD messages j noMessage) c ≡ getD out i 0
   number-says c i g e = sym (number-at c i g e .is g)
 
   value-says : (i : ℕ) → i < 4 → getD (getD messages j noMessage .values) i 0 ≡ getD (messageAt out j .values) i 0
   unfolding messageAt numberOf
-  value-says zero g = number-says 3 (j * 7 + 3) (omega arith) (omega arith)
-  value-says (suc zero) g = number-says 4 (j * 7 + 4) (omega arith) (omega arith)
-  value-says (suc (suc zero)) g = number-says 5 (j * 7 + 5) (omega arith) (omega arith)
-  value-says (suc (suc (suc zero))) g = number-says 6 (j * 7 + 6) (omega arith) (omega arith)
+  value-says zero g = number-says 3 (j * 8 + 3) (omega arith) (omega arith)
+  value-says (suc zero) g = number-says 4 (j * 8 + 4) (omega arith) (omega arith)
+  value-says (suc (suc zero)) g = number-says 5 (j * 8 + 5) (omega arith) (omega arith)
+  value-says (suc (suc (suc zero))) g = number-says 6 (j * 8 + 6) (omega arith) (omega arith)
   value-says (suc (suc (suc (suc i)))) g = absurd (omega arith)
 
   message-says : getD messages j noMessage ≡ messageAt out j
   unfolding messageAt numberOf
   message-says =
-      let long = number-at 0 (j * 7) (omega arith) (omega arith) .long in
+      let long = number-at 0 (j * 8) (omega arith) (omega arith) .long in
       let v : getD messages j noMessage .values ≡ messageAt out j .values = ext-getD 0 _ _ long (λ i g. value-says i (omega (arith, long))) in
       rw (
-        ← number-says 0 (j * 7) (omega arith) (omega arith),
-        ← number-says 1 (j * 7 + 1) (omega arith) (omega arith),
-        ← number-says 2 (j * 7 + 2) (omega arith) (omega arith),
+        ← number-says 0 (j * 8) (omega arith) (omega arith),
+        ← number-says 1 (j * 8 + 1) (omega arith) (omega arith),
+        ← number-says 2 (j * 8 + 2) (omega arith) (omega arith),
+        ← number-says 7 (j * 8 + 7) (omega arith) (omega arith),
         ← v,
       )
 
 pub writing-full : {messages : List Message} (n : ℕ) (out : List ℕ) → length messages ≡ 64 → 64 < n → Letters messages n out
 writing-full n out e h = record { held = e; is = λ few j g. absurd (omega arith) }
 
-pub writing-done : {messages : List Message} {n : ℕ} {out : List ℕ} {i : ℕ} → Filling (Numbered messages) 448 out i → length messages ≡ 64 → n * 7 ≤ i → Letters messages n out
+pub writing-done : {messages : List Message} {n : ℕ} {out : List ℕ} {i : ℕ} → Filling (Numbered messages) 512 out i → length messages ≡ 64 → n * 8 ≤ i → Letters messages n out
 writing-done {messages} {n} {out} w e h = record { held = e; is = λ few j g. message-says messages out n (λ i z. w .filled i (omega arith)) j g }
 
 -- `known_value`
@@ -114,10 +119,11 @@ module _ {flags : List ℕ} {o : Order} {out : List ℕ} {i : ℕ} (w : Filling 
       → Filling (Known flags o) 16 (set out i r) (i + 1)
   knowing-again h y = filling-again w h (record { is = y })
 
-  pub knowing-done : 16 ≤ i → length (o .bound) ≡ 16 → KnowsOrder flags o out
+  pub knowing-done : 16 ≤ i → length (o .bound) ≡ 16 → length (o .values) ≡ 16 → KnowsOrder flags o out
   unfolding askedOf sixteenth
-  knowing-done h b = record {
+  knowing-done h b n = record {
     bindings = b;
+    worths = n;
     is = λ p c. record {
       is = λ v.
           elim (decLt v 16) [
@@ -193,12 +199,12 @@ costs-one a e = record { is = rw (eq-eqb _ _ e); most = omega arith }
 pub costs-none : (a : ℕ) → (a ≡ 0 → ⊥) → Costs a 0
 costs-none a e = record { is = rw (ne-eqb _ _ e); most = omega arith }
 
-values-at : (l : List ℕ) (j i : ℕ) → i < 4 → getD (messageAt l j .values) i 0 ≡ getD l (j * 7 + 3 + i) 0
+values-at : (l : List ℕ) (j i : ℕ) → i < 4 → getD (messageAt l j .values) i 0 ≡ getD l (j * 8 + 3 + i) 0
 unfolding messageAt
-values-at l j zero h = let e : j * 7 + 3 + 0 ≡ j * 7 + 3 = omega arith in rw e
-values-at l j (suc zero) h = let e : j * 7 + 3 + suc zero ≡ j * 7 + 4 = omega arith in rw e
-values-at l j (suc (suc zero)) h = let e : j * 7 + 3 + suc (suc zero) ≡ j * 7 + 5 = omega arith in rw e
-values-at l j (suc (suc (suc zero))) h = let e : j * 7 + 3 + suc (suc (suc zero)) ≡ j * 7 + 6 = omega arith in rw e
+values-at l j zero h = let e : j * 8 + 3 + 0 ≡ j * 8 + 3 = omega arith in rw e
+values-at l j (suc zero) h = let e : j * 8 + 3 + suc zero ≡ j * 8 + 4 = omega arith in rw e
+values-at l j (suc (suc zero)) h = let e : j * 8 + 3 + suc (suc zero) ≡ j * 8 + 5 = omega arith in rw e
+values-at l j (suc (suc (suc zero))) h = let e : j * 8 + 3 + suc (suc (suc zero)) ≡ j * 8 + 6 = omega arith in rw e
 values-at l j (suc (suc (suc (suc i)))) h = absurd (omega arith)
 
 -- the loop of `agrees_at`: the places passed agree, so all agree where the rest do
@@ -225,7 +231,7 @@ module _ {asked letters : List ℕ} {j count i : ℕ} (w : Agreeing asked letter
         rw (w .same p o vs c l, drop-of-length-le vs g);
   }
 
-  module _ (h : i < count) (few : count ≤ 4) {b : Bool} (a : b ≡ (eqb (getD asked i 0) 0 || eqb (getD asked i 0) (getD letters (j * 7 + 3 + i) 0 + 1))) where
+  module _ (h : i < count) (few : count ≤ 4) {b : Bool} (a : b ≡ (eqb (getD asked i 0) 0 || eqb (getD asked i 0) (getD letters (j * 8 + 3 + i) 0 + 1))) where
     agrees-next : (p : Plan) (o : Order) (vs : List ℕ) → Asking asked p o vs → length vs ≡ count
         → agrees p o vs (messageAt letters j .values) ≡ (b && agrees p o (drop (i + 1) vs) (drop (i + 1) (messageAt letters j .values)))
     agrees-next p o vs c l =
@@ -251,42 +257,42 @@ module _ (t : List ℕ) (k : ℕ) (asked letters : List ℕ) (j : ℕ) where
   pub fits-nothing : 64 ≤ j → FitsRow t k asked letters j false
   fits-nothing h = record { is = λ few p o a b vs c e. absurd (omega arith) }
 
-  pub fits-partner : (getD letters (j * 7) 0 ≡ getD t (k * 13 + 1) 0 → ⊥) → FitsRow t k asked letters j false
+  pub fits-partner : (getD letters (j * 8) 0 ≡ getD t (k * 13 + 1) 0 → ⊥) → FitsRow t k asked letters j false
   unfolding fits messageAt
-  fits-partner n = record { is = λ few p o a b vs c e. rw (ne-eqb (getD letters (j * 7) 0) a (λ q. n (q ∙ sym (e .partner)))) }
+  fits-partner n = record { is = λ few p o a b vs c e. rw (ne-eqb (getD letters (j * 8) 0) a (λ q. n (q ∙ sym (e .partner)))) }
 
-  module _ (y : getD letters (j * 7) 0 ≡ getD t (k * 13 + 1) 0) where
-    pub fits-operation : (getD letters (j * 7 + 1) 0 ≡ getD t (k * 13 + 2) 0 → ⊥) → FitsRow t k asked letters j false
+  module _ (y : getD letters (j * 8) 0 ≡ getD t (k * 13 + 1) 0) where
+    pub fits-operation : (getD letters (j * 8 + 1) 0 ≡ getD t (k * 13 + 2) 0 → ⊥) → FitsRow t k asked letters j false
     unfolding fits messageAt
     fits-operation n = record {
       is = λ few p o a b vs c e.
-          rw (eq-eqb (getD letters (j * 7) 0) a (y ∙ e .partner), ne-eqb (getD letters (j * 7 + 1) 0) b (λ q. n (q ∙ sym (e .operation))));
+          rw (eq-eqb (getD letters (j * 8) 0) a (y ∙ e .partner), ne-eqb (getD letters (j * 8 + 1) 0) b (λ q. n (q ∙ sym (e .operation))));
     }
 
-    module _ (z : getD letters (j * 7 + 1) 0 ≡ getD t (k * 13 + 2) 0) where
-      pub fits-count : (getD letters (j * 7 + 2) 0 ≡ getD t (k * 13 + 3) 0 → ⊥) → FitsRow t k asked letters j false
+    module _ (z : getD letters (j * 8 + 1) 0 ≡ getD t (k * 13 + 2) 0) where
+      pub fits-count : (getD letters (j * 8 + 2) 0 ≡ getD t (k * 13 + 3) 0 → ⊥) → FitsRow t k asked letters j false
       unfolding fits messageAt
       fits-count n = record {
         is = λ few p o a b vs c e.
             rw (
-              eq-eqb (getD letters (j * 7) 0) a (y ∙ e .partner),
-              eq-eqb (getD letters (j * 7 + 1) 0) b (z ∙ e .operation),
-              ne-eqb (getD letters (j * 7 + 2) 0) (length vs) (λ q. n (q ∙ sym (e .count))),
+              eq-eqb (getD letters (j * 8) 0) a (y ∙ e .partner),
+              eq-eqb (getD letters (j * 8 + 1) 0) b (z ∙ e .operation),
+              ne-eqb (getD letters (j * 8 + 2) 0) (length vs) (λ q. n (q ∙ sym (e .count))),
             );
       }
 
-      module _ (n : getD letters (j * 7 + 2) 0 ≡ getD t (k * 13 + 3) 0) where
-        pub fits-many : 4 < getD letters (j * 7 + 2) 0 → FitsRow t k asked letters j false
+      module _ (n : getD letters (j * 8 + 2) 0 ≡ getD t (k * 13 + 3) 0) where
+        pub fits-many : 4 < getD letters (j * 8 + 2) 0 → FitsRow t k asked letters j false
         fits-many h = record { is = λ few p o a b vs c e. absurd (omega (arith, c .few, n ∙ e .count)) }
 
-        pub fits-values : {r : Bool} → Agrees asked letters j (getD letters (j * 7 + 2) 0) r → FitsRow t k asked letters j r
+        pub fits-values : {r : Bool} → Agrees asked letters j (getD letters (j * 8 + 2) 0) r → FitsRow t k asked letters j r
         unfolding fits messageAt
         fits-values g = record {
           is = λ few p o a b vs c e.
               rw (
-                eq-eqb (getD letters (j * 7) 0) a (y ∙ e .partner),
-                eq-eqb (getD letters (j * 7 + 1) 0) b (z ∙ e .operation),
-                eq-eqb (getD letters (j * 7 + 2) 0) (length vs) (n ∙ e .count),
+                eq-eqb (getD letters (j * 8) 0) a (y ∙ e .partner),
+                eq-eqb (getD letters (j * 8 + 1) 0) b (z ∙ e .operation),
+                eq-eqb (getD letters (j * 8 + 2) 0) (length vs) (n ∙ e .count),
               )
               (g .is p o vs c (sym (n ∙ e .count)));
         }

@@ -13,7 +13,7 @@ use lib.ListN.{length, getD, drop, length-append, drop-of-length-le}
 use lib.Seq.{drop-cons}
 use Rattle.plan.specs.Read.{laterOf}
 use Rattle.plan.specs.Spells.{Spells, SpellsAll, SpellsPlan, variablesOf}
-use Rattle.plan.specs.Tree.{Own, empty, send, receive, set, raise, leave, choose, repeat, sequence, flow, pick, scope, arm, isPick, hasUndo, numbersOf, Act, act, Acts, none, more, Plan, size, sizes, count}
+use Rattle.plan.specs.Tree.{toPartner, toHeld, fromPartner, fromAsking, Own, empty, send, receive, set, raise, leave, choose, repeat, sequence, flow, pick, scope, arm, isPick, hasUndo, numbersOf, Act, act, Acts, none, more, Plan, size, sizes, count}
 use Rattle.plan.specs.Spell.{spelling, gapsOf, later, passing}
 use Rattle.plan.specs.Within.{from1, scopeParts, numbersWithin, ascending, levelsBelow, variablesWithin, exchangeWithin, ownWithin, actWithin, actsWithin, planWithin}
 use Rattle.plan.proofs.Accepts.{both}
@@ -141,8 +141,12 @@ few-exchange vars once a b vs h =
 few-own : (vars : ℕ) (cs : List ℕ) (h ar : Bool) (own : Own) (n : ℕ) → ownWithin vars cs h ar own n ≡ true → length (variablesOf own) ≤ 4
 unfolding ownWithin variablesOf
 few-own vars cs h ar empty n e = omega arith
-few-own vars cs h ar (send a b vs) n e = both (not ar) _ e (λ h1 g1. both (eqb n 0) _ g1 (λ h2 g2. few-exchange vars false a b vs g2))
-few-own vars cs h ar (receive a b vs) n e = both (not ar) _ e (λ h1 g1. both (eqb n 0) _ g1 (λ h2 g2. few-exchange vars true a b vs g2))
+few-own vars cs h ar (send (toPartner a) b vs) n e = both (not ar) _ e (λ h1 g1. both (eqb n 0) _ g1 (λ h2 g2. few-exchange vars false a b vs g2))
+few-own vars cs h ar (send (toHeld v a) b vs) n e =
+    both (not ar) _ e (λ h1 g1. both (eqb n 0) _ g1 (λ h2 g2. both (ltb v vars) _ g2 (λ h3 g3. few-exchange vars false a b vs g3)))
+few-own vars cs h ar (receive (fromPartner a) b vs) n e = both (not ar) _ e (λ h1 g1. both (eqb n 0) _ g1 (λ h2 g2. few-exchange vars true a b vs g2))
+few-own vars cs h ar (receive (fromAsking a v) b vs) n e =
+    both (not ar) _ e (λ h1 g1. both (eqb n 0) _ g1 (λ h2 g2. both (exchangeWithin vars true a b vs) _ g2 (λ h3 g3. few-exchange vars true a b vs h3)))
 few-own vars cs h ar (set v x) n e = omega arith
 few-own vars cs h ar (raise zero) n e = omega arith
 few-own vars cs h ar (raise (suc number)) n e = omega arith

@@ -5,7 +5,7 @@ use mathlib.Core.List.{[], _∷_}
 use Prim.Native.Nat.{ℕ, zero, suc}
 use lib.Dec.{eqb}
 use Rattle.plan.specs.Read.{isScopeCode}
-use Rattle.plan.specs.Tree.{Own, empty, send, receive, set, raise, leave, choose, repeat, sequence, flow, pick, scope, arm, kind, isArm}
+use Rattle.plan.specs.Tree.{toPartner, toHeld, fromPartner, fromAsking, Own, empty, send, receive, set, raise, leave, choose, repeat, sequence, flow, pick, scope, arm, kind, isArm}
 use Rattle.plan.proofs.ByKind.{kind-scope}
 use Rattle.machine.specs.Fit.{awaits}
 use Rattle.order.specs.State.{active, done}
@@ -13,8 +13,10 @@ use Rattle.order.specs.State.{active, done}
 kind-arm : (own : Own) → eqb (kind own) 255 ≡ isArm own
 unfolding kind
 kind-arm empty = refl
-kind-arm (send a b vs) = refl
-kind-arm (receive a b vs) = refl
+kind-arm (send (toPartner a) b vs) = refl
+kind-arm (send (toHeld v a) b vs) = refl
+kind-arm (receive (fromPartner a) b vs) = refl
+kind-arm (receive (fromAsking a v) b vs) = refl
 kind-arm (set v e) = refl
 kind-arm (raise zero) = refl
 kind-arm (raise (suc number)) = refl

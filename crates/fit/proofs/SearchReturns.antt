@@ -10,7 +10,7 @@ use lib.Dec.{eqb, ltb}
 use lib.ListN.{length, getD, set as setAt}
 use Rattle.plan.specs.Spells.{variablesOf, Row, Spells}
 use Rattle.plan.specs.Table.{rowOf}
-use Rattle.plan.specs.Tree.{Own, empty, send, receive, set, raise, leave, choose, repeat, sequence, flow, pick, scope, arm, kind, numbersOf, Plan}
+use Rattle.plan.specs.Tree.{toPartner, toHeld, fromPartner, fromAsking, Own, empty, send, receive, set, raise, leave, choose, repeat, sequence, flow, pick, scope, arm, kind, numbersOf, Plan}
 use Rattle.plan.proofs.TableSpells.{row-count, row-variables}
 use Rattle.machine.specs.declared.Message.{Message}
 use Rattle.order.specs.declared.Order.{Order}
@@ -153,7 +153,7 @@ stands-exchange {x = x} y h =
 
 -- one that takes a message is none
 receives-other : (own : Own) → receives own ≡ true → kind own ≡ 14 → ⊥
-receives-other own e h = false≢true (sym (ap (λ (n : ℕ). eqb n 2 || eqb n 255) h) ∙ e)
+receives-other own e h = false≢true (sym (ap (λ (n : ℕ). eqb n 2 || (eqb n 18 || eqb n 255)) h) ∙ e)
 
 and-second : (a b : Bool) → (a && b) ≡ true → b ≡ true
 and-second true b e = e
@@ -176,13 +176,20 @@ module _ (t picks ms : List ℕ) (k : ℕ) where
   pub opens-receive : getD t (k * 13) 0 ≡ 2 → OpensRow t picks ms k (eqb (getD ms k 0) 1)
   opens-receive z = record { is = λ x w y. rw (awaits-kind (x .own), sym (stands-kind y) ∙ z, y .activity) (and-true (eqb (getD ms k 0) 1)) }
 
+  pub opens-asking : getD t (k * 13) 0 ≡ 18 → OpensRow t picks ms k (eqb (getD ms k 0) 1)
+  opens-asking z = record { is = λ x w y. rw (awaits-kind (x .own), sym (stands-kind y) ∙ z, y .activity) (and-true (eqb (getD ms k 0) 1)) }
+
   pub opens-arm : {b : Bool} → getD t (k * 13) 0 ≡ 255 → ArmsRow t picks ms k b → OpensRow t picks ms k b
   opens-arm {b} z q = record { is = λ x w y. rw (awaits-kind (x .own), sym (stands-kind y) ∙ z) (q .is (y .inside) w z ∙ (sym (y .arms) ∙ and-true (x .arms))) }
 
-  pub opens-other : (getD t (k * 13) 0 ≡ 2 → ⊥) → (getD t (k * 13) 0 ≡ 255 → ⊥) → OpensRow t picks ms k false
-  opens-other z v = record {
+  pub opens-other : (getD t (k * 13) 0 ≡ 2 → ⊥) → (getD t (k * 13) 0 ≡ 18 → ⊥) → (getD t (k * 13) 0 ≡ 255 → ⊥) → OpensRow t picks ms k false
+  opens-other z u v = record {
     is = λ x w y.
-        rw (ne-eqb (kind (x .own)) 2 (λ q. z (stands-kind y ∙ q)), ne-eqb (kind (x .own)) 255 (λ q. v (stands-kind y ∙ q))) (and-false (isReady ms x));
+        rw (
+          ne-eqb (kind (x .own)) 2 (λ q. z (stands-kind y ∙ q)),
+          ne-eqb (kind (x .own)) 18 (λ q. u (stands-kind y ∙ q)),
+          ne-eqb (kind (x .own)) 255 (λ q. v (stands-kind y ∙ q)),
+        ) (and-false (isReady ms x));
   }
 
 -- `takes_at`
@@ -190,8 +197,10 @@ fits-row : (p : Plan) (o : Order) (m : Message) (own : Own) (q at : ℕ)
     → fitsOwn p o m own ≡ (receives own && fits p o (getD (rowOf own q at) 1 0) (getD (rowOf own q at) 2 0) (variablesOf own) m)
 unfolding fitsOwn rowOf variablesOf kind
 fits-row p o m empty q at = refl
-fits-row p o m (send a b vs) q at = refl
-fits-row p o m (receive a b vs) q at = refl
+fits-row p o m (send (toPartner a) b vs) q at = refl
+fits-row p o m (send (toHeld v a) b vs) q at = refl
+fits-row p o m (receive (fromPartner a) b vs) q at = refl
+fits-row p o m (receive (fromAsking a v) b vs) q at = refl
 fits-row p o m (set v e) q at = refl
 fits-row p o m (raise zero) q at = refl
 fits-row p o m (raise (suc number)) q at = refl

@@ -5,7 +5,7 @@ use mathlib.Core.List.{List, [], _∷_}
 use Prim.Native.Nat.{ℕ, zero, suc, _+_, _<_, _≤_}
 use native.Mathlib.Omega.{arith}
 use lib.ListN.{length, getD, drop}
-use Rattle.plan.specs.Tree.{Own, empty, send, receive, set, raise, leave, choose, repeat, sequence, flow, pick, scope, arm, Acts, Plan}
+use Rattle.plan.specs.Tree.{partnerFrom, Own, empty, send, receive, set, raise, leave, choose, repeat, sequence, flow, pick, scope, arm, Acts, Plan}
 use Rattle.machine.specs.declared.Message.{Message}
 use Rattle.order.specs.declared.Order.{Order}
 use Rattle.fit.specs.declared.Receiver.{Receiver}
@@ -45,7 +45,7 @@ fitting-own : (p : Plan) (o : Order) (m : Message) (own : Own) (l : Acts) (k : �
 unfolding doingOf fitting fitsOwn
 fitting-own p o m empty l k = refl
 fitting-own p o m (send a b vs) l k = refl
-fitting-own p o m (receive a b vs) l k = one-empties (fits p o a b vs m) (unchecked p o vs)
+fitting-own p o m (receive a b vs) l k = one-empties (fits p o (partnerFrom a) b vs m) (unchecked p o vs)
 fitting-own p o m (set v e) l k = refl
 fitting-own p o m (raise zero) l k = refl
 fitting-own p o m (raise (suc number)) l k = refl

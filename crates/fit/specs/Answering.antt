@@ -7,7 +7,7 @@ use mathlib.Core.Path.{_≡_}
 use lib.Dec.{eqb, ltb}
 use lib.ListN.{length, getD}
 use Rattle.plan.specs.Found.{among}
-use Rattle.plan.specs.Tree.{Own, empty, send, receive, set as setting, raise, leave, choose, repeat, sequence, flow, pick, scope, arm, Plan}
+use Rattle.plan.specs.Tree.{partnerFrom, Own, empty, send, receive, set as setting, raise, leave, choose, repeat, sequence, flow, pick, scope, arm, Plan}
 use Rattle.machine.specs.declared.Message.{Message}
 use Rattle.order.specs.declared.Order.{Order}
 use Rattle.machine.specs.Fit.{awaits, isChecked, agrees, fits, unchecked}
@@ -46,6 +46,7 @@ pub record Knows (known : List ℕ) (p : Plan) (o : Order) : Type 0 where
 -- r has that of an order; and how long the list of what is bound is, which a lent list does not say
 pub record KnowsOrder (flags : List ℕ) (o : Order) (r : List ℕ) : Type 0 where
   pub bindings : length (o .bound) ≡ 16
+  pub worths : length (o .values) ≡ 16
   pub is : (p : Plan) → Correlated p flags → Knows r p o
 
 -- r is what row k asks at its places
@@ -57,23 +58,24 @@ pub record Asking (asked : List ℕ) (p : Plan) (o : Order) (vs : List ℕ) : Ty
   pub few : length vs ≤ 4
   pub is : (i : ℕ) → i < length vs → getD asked i 0 ≡ askedOf p o (getD vs i 0)
 
--- one of the seven numbers of a message: its partner, its operation, its count, its four values
+-- one of the eight numbers of a message: its partner, its operation, its count, its four values, its reply partner
 unfoldable pub numberOf : Message → (i : ℕ) → ℕ
 numberOf m i =
-    cond (eqb i 0) (m .partner) (cond (eqb i 1) (m .operation) (cond (eqb i 2) (m .count) (getD (m .values) (i - 3) 0)))
+    cond (eqb i 0) (m .partner) (cond (eqb i 1) (m .operation) (cond (eqb i 2) (m .count) (cond (eqb i 7) (m .reply) (getD (m .values) (i - 3) 0))))
 
 pub record Numbers (m : Message) (i r : ℕ) : Type 0 where
   pub long : length (m .values) ≡ 4
-  pub is : i < 7 → r ≡ numberOf m i
+  pub is : i < 8 → r ≡ numberOf m i
 
--- the message at place j, where each has seven numbers
+-- the message at place j, where each has eight numbers
 unfoldable pub messageAt : (letters : List ℕ) → (j : ℕ) → Message
 messageAt l j =
     record {
-      partner = getD l (j * 7) 0;
-      operation = getD l (j * 7 + 1) 0;
-      count = getD l (j * 7 + 2) 0;
-      values = getD l (j * 7 + 3) 0 ∷ (getD l (j * 7 + 4) 0 ∷ (getD l (j * 7 + 5) 0 ∷ (getD l (j * 7 + 6) 0 ∷ [])));
+      partner = getD l (j * 8) 0;
+      operation = getD l (j * 8 + 1) 0;
+      count = getD l (j * 8 + 2) 0;
+      values = getD l (j * 8 + 3) 0 ∷ (getD l (j * 8 + 4) 0 ∷ (getD l (j * 8 + 5) 0 ∷ (getD l (j * 8 + 6) 0 ∷ [])));
+      reply = getD l (j * 8 + 7) 0;
     }
 
 -- r has the numbers of the messages that wait
@@ -131,7 +133,7 @@ pub record ArmsRow (t picks ms : List ℕ) (k : ℕ) (r : Bool) : Type 0 where
 unfoldable pub fitsOwn : Plan → Order → Message → Own → Bool
 fitsOwn p o m empty = false
 fitsOwn p o m (send a b vs) = false
-fitsOwn p o m (receive a b vs) = fits p o a b vs m
+fitsOwn p o m (receive from b vs) = fits p o (partnerFrom from) b vs m
 fitsOwn p o m (setting v e) = false
 fitsOwn p o m (raise n) = false
 fitsOwn p o m leave = false

@@ -55,7 +55,7 @@ pub record Lent (t picks marks known : List ℕ) (o : Order) (p : Plan) (l : Lis
 
 -- whether an activity or arm takes a message
 abbrev pub receives : Own → Bool
-receives own = eqb (kind own) 2 || eqb (kind own) 255
+receives own = eqb (kind own) 2 || (eqb (kind own) 18 || eqb (kind own) 255)
 
 -- r says whether row k is an open receive or arm
 pub record OpensRow (t picks ms : List ℕ) (k : ℕ) (r : Bool) : Type 0 where

@@ -76,13 +76,13 @@ fn allows(asked: u64, value: u32) -> bool
 }
 
 // Whether the first `count` values of the message at place j are those that are asked.
-fn agrees_at(asked: &[u64; 4], letters: &[u32; 448], j: usize, count: usize) -> bool
+fn agrees_at(asked: &[u64; 4], letters: &[u32; 512], j: usize, count: usize) -> bool
     requires { ⌜ (j < 64) × (count ≤ 4) ⌝ }
     ensures { λ r. ⌜ Agrees (now (asked .entry)) (now (letters .entry)) j count r ⌝ }
 {
     let mut i: usize = 0;
     while i < count {
-        if allows(asked[i], letters[j * 7 + 3 + i]) {
+        if allows(asked[i], letters[j * 8 + 3 + i]) {
             i += 1;
         } else {
             return false;
@@ -92,7 +92,7 @@ fn agrees_at(asked: &[u64; 4], letters: &[u32; 448], j: usize, count: usize) -> 
 }
 
 // Whether the message at place j fits the receive or arm in row k, of which this is asked: all 32 bits of each checked place count.
-pub fn fits_at(table: &Table, k: usize, asked: &[u64; 4], letters: &[u32; 448], j: usize) -> bool
+pub fn fits_at(table: &Table, k: usize, asked: &[u64; 4], letters: &[u32; 512], j: usize) -> bool
     ensures { λ r. ⌜ FitsRow (now (table .entry)) k (now (asked .entry)) (now (letters .entry)) j r ⌝ }
 {
     if 256 <= k {
@@ -101,13 +101,13 @@ pub fn fits_at(table: &Table, k: usize, asked: &[u64; 4], letters: &[u32; 448], 
     if 64 <= j {
         return false;
     }
-    if letters[j * 7] != table[k * WIDTH + PARTNER] {
+    if letters[j * 8] != table[k * WIDTH + PARTNER] {
         return false;
     }
-    if letters[j * 7 + 1] != table[k * WIDTH + OPERATION] {
+    if letters[j * 8 + 1] != table[k * WIDTH + OPERATION] {
         return false;
     }
-    let count = letters[j * 7 + 2];
+    let count = letters[j * 8 + 2];
     if count != table[k * WIDTH + COUNT] {
         return false;
     }

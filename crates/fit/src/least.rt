@@ -15,7 +15,7 @@ fn least_letter(
     k: usize,
     asked: &[u64; 4],
     unchecked: usize,
-    letters: &[u32; 448],
+    letters: &[u32; 512],
     j: usize,
     least: usize,
 ) -> usize
@@ -36,7 +36,7 @@ fn least_letters(
     table: &Table,
     known: &[u64; 16],
     k: usize,
-    letters: &[u32; 448],
+    letters: &[u32; 512],
     waiting: usize,
     least: &mut [usize; 64],
 )
@@ -59,7 +59,7 @@ fn least_row(
     marks: &[u8; 256],
     known: &[u64; 16],
     k: usize,
-    letters: &[u32; 448],
+    letters: &[u32; 512],
     waiting: usize,
     least: &mut [usize; 64],
 )
@@ -79,7 +79,7 @@ fn least_rows(
     marks: &[u8; 256],
     known: &[u64; 16],
     activities: usize,
-    letters: &[u32; 448],
+    letters: &[u32; 512],
     waiting: usize,
     least: &mut [usize; 64],
 )
@@ -100,7 +100,7 @@ pub fn least_slot(
     picks: &[usize; 256],
     order: Order,
     activities: usize,
-    letters: &[u32; 448],
+    letters: &[u32; 512],
     waiting: usize,
     least: &mut [usize; 64],
 )

@@ -1,8 +1,8 @@
-// The messages as plain numbers, seven for each, which can be lent.
+// The messages as plain numbers, eight for each, which can be lent.
 use machine::Message;
 ghost use Rattle.fit.specs.Answering.{Numbers, Letters};
 
-// One of the seven numbers of a message: its partner, its operation, its count, its four values.
+// One of the eight numbers of a message: its partner, its operation, its count, its four values, its reply partner.
 fn number_of(message: Message, i: usize) -> u32
     ensures { λ r. ⌜ Numbers message i r ⌝ }
 {
@@ -18,22 +18,25 @@ fn number_of(message: Message, i: usize) -> u32
     if i < 7 {
         return message.values[i - 3];
     }
+    if i == 7 {
+        return message.reply;
+    }
     0
 }
 
 // The numbers of the messages that wait.
-pub fn letters_of(messages: [Message; 64], waiting: usize) -> [u32; 448]
+pub fn letters_of(messages: [Message; 64], waiting: usize) -> [u32; 512]
     ensures { λ r. ⌜ Letters messages waiting r ⌝ }
 {
-    let mut out = [0u32; 448];
+    let mut out = [0u32; 512];
     if 64 < waiting {
         return out;
     }
-    let many = waiting * 7;
+    let many = waiting * 8;
     let mut i: usize = 0;
     while i < many {
-        let m = messages[i / 7];
-        out[i] = number_of(m, i % 7);
+        let m = messages[i / 8];
+        out[i] = number_of(m, i % 8);
         i += 1;
     }
     out

@@ -96,6 +96,9 @@ pub(crate) fn open_at(table: &Table, picks: &[usize; 256], marks: &[u8; 256], k:
     if kind == kind::RECEIVE {
         return marks[k] == 1;
     }
+    if kind == kind::ASKING_RECEIVE {
+        return marks[k] == 1;
+    }
     if kind == kind::ARM {
         return arm_open(table, picks, marks, k);
     }
@@ -109,7 +112,7 @@ pub fn takes_at(
     marks: &[u8; 256],
     known: &[u64; 16],
     k: usize,
-    letters: &[u32; 448],
+    letters: &[u32; 512],
     j: usize,
 ) -> bool
     ensures { λ r. ⌜ TakesRow (now (table .entry)) (now (picks .entry)) (now (marks .entry)) (now (known .entry)) k (now (letters .entry)) j r ⌝ }
@@ -138,7 +141,7 @@ pub fn first_receiver(
     picks: &[usize; 256],
     orders: [Order; 16],
     activities: usize,
-    letters: &[u32; 448],
+    letters: &[u32; 512],
     j: usize,
 ) -> Receiver
     ensures { λ r. ⌜ Receives (now (table .entry)) (now (flags .entry)) (now (picks .entry)) orders activities (now (letters .entry)) j r ⌝ }

@@ -6,9 +6,9 @@ use Prim.Native.Nat.{ℕ, _+_, _<_}
 use native.Mathlib.Omega.{arith}
 use borrow.Author.Tests.{lt-ltb, leb-false, eqb-true}
 use lib.Dec.{eqb, leb, ltb}
-use Rattle.plan.specs.Tree.{Own, Act, act, Acts, none, more, Plan, size}
+use Rattle.plan.specs.Tree.{To, Own, Act, act, Acts, none, more, Plan, size}
 use Rattle.order.specs.declared.Order.{Order}
-use Rattle.order.specs.Acting.{allBound}
+use Rattle.order.specs.Acting.{maySend}
 use Rattle.order.specs.Room.{roomPlan}
 use Rattle.order.specs.State.{closings}
 use Rattle.order.specs.Taking.{actIn, actAmong, actAt}
@@ -76,9 +76,9 @@ room-allowed (closes u s) wait o j a = close-room o u s a
 pub good-room : {p : Plan} {wait : ℕ} {o : Order} {k j : ℕ} → Good p wait o k j → roomPlan p k (closings o) ≡ true
 good-room {p} {wait} {o} {k} {j} g = plan-room p k (closings o) (room-allowed (doingAt p k) wait o j (g .allowed))
 
--- a send of bound variables that is not held has a place for its message
-pub send-room : (n : ℕ) (o : Order) (vs : List ℕ) → sendHeld n o vs ≡ false → allBound o vs ≡ true → n < 64
-send-room n o vs h f = go (leb 64 n) refl (subst (λ (z : Bool). (leb 64 n && z) ≡ false) f h)
+-- a send that would send and is not held has a place for its message
+pub send-room : (n : ℕ) (o : Order) (to : To) (vs : List ℕ) → sendHeld n o to vs ≡ false → maySend o to vs ≡ true → n < 64
+send-room n o to vs h f = go (leb 64 n) refl (subst (λ (z : Bool). (leb 64 n && z) ≡ false) f h)
   where
     go : (z : Bool) → leb 64 n ≡ z → (z && true) ≡ false → n < 64
     go true w g = absurd (let c : _≡_ {A = ℕ} 0 1 = cc in omega arith)

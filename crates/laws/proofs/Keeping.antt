@@ -5,7 +5,7 @@ use mathlib.Core.List.{List, [], _∷_, _++_}
 use Prim.Native.Nat.{ℕ, zero, suc, _+_, _-_, _*_, _<_, _≤_}
 use native.Mathlib.Numerals.{add-one}
 use native.Mathlib.Omega.{arith}
-use borrow.Author.Tests.{le-leb, leb-true, leb-false, ltb-true, ltb-false, eqb-true, not-false}
+use borrow.Author.Tests.{le-leb, lt-ltb, leb-true, leb-false, ltb-true, ltb-false, eqb-true, not-false}
 use lib.Dec.{eqb, ltb, leb}
 use lib.ListN.{length, getD, take, drop, set, replicate, length-append, length-set, length-drop, length-replicate}
 use lib.Seq.{take-at, take-append-le, length-take-le, drop-at}
@@ -13,18 +13,18 @@ use Rattle.plan.specs.Found.{Found, refused, found}
 use Rattle.plan.specs.Read.{readPlan}
 use Rattle.plan.specs.Table.{tableOf}
 use Rattle.plan.specs.Within.{planWithin, ownWithin, exchangeWithin}
-use Rattle.plan.specs.Tree.{Exp, Own, empty, send, receive, set as setting, raise, leave, choose, repeat, sequence, flow, pick, scope, arm, kind, Act, act, Acts, none, more, Plan, size, count}
+use Rattle.plan.specs.Tree.{Exp, toPartner, toHeld, heldBy, replyOf, From, fromPartner, fromAsking, Own, empty, send, receive, set as setting, raise, leave, choose, repeat, sequence, flow, pick, scope, arm, kind, Act, act, Acts, none, more, Plan, size, count}
 use Rattle.plan.proofs.Accepts.{both}
 use Rattle.plan.proofs.Limits.{accepted-is-within}
 use Rattle.order.specs.declared.Order.{Order}
-use Rattle.order.specs.Acting.{startedOrder, begunOrder, allBound}
+use Rattle.order.specs.Acting.{startedOrder, begunOrder, allBound, partnerTo, reaches, maySend}
 use Rattle.order.specs.Judging.{stepOrder}
 use Rattle.order.specs.Event.{Event, started}
 use Rattle.order.specs.Lists.{every, stored}
 use Rattle.order.specs.Room.{roomPlan}
 use Rattle.order.specs.Stands.{Stands}
-use Rattle.order.specs.State.{isLive, noOrder, closings}
-use Rattle.order.specs.Taking.{actAt, bindAll}
+use Rattle.order.specs.State.{isLive, noOrder, closings, valueOf}
+use Rattle.order.specs.Taking.{actAt, bindAll, storing}
 use Rattle.order.proofs.Accepted.{within-spelled}
 use Rattle.order.proofs.PlanStands.{plan-stands, plan-at}
 use Rattle.machine.specs.declared.Message.{Message}
@@ -32,7 +32,7 @@ use Rattle.machine.specs.declared.State.{State}
 use Rattle.machine.specs.declared.Tally.{Tally}
 use Rattle.machine.specs.declared.Posted.{Posted}
 use Rattle.machine.specs.declared.Collected.{Collected}
-use Rattle.machine.specs.Calls.{Stepped, doingAt, valuesOf, messagesAfter, orderTaking, stepped, taken, stepChosen, stepBy, step, choosing, Chosen, chosen, refusedChoice, refusing, nth, trimmed, postBy, post, handing, dropAt, collectBy, collect, load, foreign, partnersOf, countStart}
+use Rattle.machine.specs.Calls.{Stepped, doingAt, valuesOf, sentBy, gives, messagesAfter, orderTaking, stepped, taken, stepChosen, stepBy, step, choosing, Chosen, chosen, refusedChoice, refusing, nth, trimmed, postBy, post, handing, dropAt, collectBy, collect, load, foreign, partnersOf, countStart}
 use Rattle.machine.specs.Fit.{Doing, noStep, sends, takes, moves, cuts, closes, doingOf}
 use Rattle.machine.specs.Limits.{exchanged, messageInLimits, orderInLimits, inLimits, planIn, by}
 use Rattle.machine.specs.Offer.{Offer, Offers, sendHeld, offersOf}
@@ -43,8 +43,8 @@ use Rattle.machine.proofs.Called.{plan-found, short-found}
 use Rattle.machine.proofs.Moved.{every-at}
 use Rattle.laws.proofs.Offering.{pick-true, pick-false, chosen-fine}
 use Rattle.laws.proofs.Roomy.{take-closings}
-use Rattle.laws.proofs.Staying.{every-set, step-limits, start-limits, bind-limits, none-limits}
-use Rattle.laws.proofs.Doing.{good-room, plan-doing, actDoing}
+use Rattle.laws.proofs.Staying.{every-set, step-limits, start-limits, binding-limits, bind-limits, none-limits}
+use Rattle.laws.proofs.Doing.{good-room, send-room, plan-doing, actDoing}
 
 -- a state that passes 17, whose messages have their 64 places
 pub record Passes (s : State) : Type 0 where
@@ -125,19 +125,20 @@ unfolding every
 zeros zero = refl
 zeros (suc n) = zeros n
 
-pub stored-limits : (p o : ℕ) (xs : List ℕ) → exchanged p o (length xs) ≡ true → messageInLimits (record { partner = p; operation = o; count = length xs; values = stored 4 xs }) ≡ true
+pub stored-limits : (p o : ℕ) (xs : List ℕ) (r : ℕ) → exchanged p o (length xs) r ≡ true
+    → messageInLimits (record { partner = p; operation = o; count = length xs; values = stored 4 xs; reply = r }) ≡ true
 unfolding messageInLimits
-stored-limits p o xs h = rw (h, drop-at xs (replicate (4 - length xs) 0) (length xs) refl) (zeros (4 - length xs))
+stored-limits p o xs r h = rw (h, drop-at xs (replicate (4 - length xs) 0) (length xs) refl) (zeros (4 - length xs))
 
 values-many : (o : Order) (vs : List ℕ) → length (valuesOf o vs) ≡ length vs
 unfolding valuesOf
 values-many o [] = refl
 values-many o (v ∷ vs) = ap suc (values-many o vs)
 
--- what a send of an accepted plan sends is within its rules
+-- what a send of an accepted plan sends, where its partner is one, is within its rules
 Exchanges : Doing → Type 0
 Exchanges noStep = Unit
-Exchanges (sends p o vs) = exchanged p o (length vs) ≡ true
+Exchanges (sends to o vs) = (q : Order) → reaches q to ≡ true → exchanged (partnerTo q to) o (length vs) (replyOf to) ≡ true
 Exchanges (takes p o vs) = Unit
 Exchanges moves = Unit
 Exchanges cuts = Unit
@@ -146,13 +147,21 @@ Exchanges (closes u s) = Unit
 own-exchanges : (t : List ℕ) (own : Own) (l : Acts) (k : ℕ) → Stands (act own l) k t → Exchanges (doingOf own l k)
 unfolding Exchanges doingOf Stands ownWithin exchangeWithin exchanged
 own-exchanges t empty l k s = tt
-own-exchanges t (send p o vs) l k s =
+own-exchanges t (send (toPartner p) o vs) l k s = λ q y.
     both (not (s .first .arms)) _ (s .first .limits) (λ a b.
     both (eqb (count l) 0) _ b (λ c d.
     both (ltb p 64) _ d (λ e f.
     both (ltb o 64) _ f (λ g h.
     both (leb 1 (length vs)) _ h (λ i j.
     both (leb (length vs) 4) _ j (λ m n. rw (e, g, i, m)))))))
+own-exchanges t (send (toHeld v r) o vs) l k s = λ q y.
+    both (not (s .first .arms)) _ (s .first .limits) (λ a b.
+    both (eqb (count l) 0) _ b (λ c d.
+    both (ltb v (s .first .variables)) _ d (λ w x.
+    both (ltb r 64) _ x (λ e f.
+    both (ltb o 64) _ f (λ g h.
+    both (leb 1 (length vs)) _ h (λ i j.
+    both (leb (length vs) 4) _ j (λ m n. rw (lt-ltb (valueOf q v) 64 (omega (arith, leb-true (valueOf q v) 63 y)), g, i, m, e))))))))
 own-exchanges t (receive p o vs) l k s = tt
 own-exchanges t (setting v e) l k s = tt
 own-exchanges t (raise number) l k s = tt
@@ -178,32 +187,29 @@ plan-exchanges p t h g =
 messages-pass : (d : Doing) (j : ℕ) (o : Order) {s : State} → Exchanges d → Allowed d (s .waiting) o j → Passes s → Passes (messagesAfter d j o s)
 unfolding messagesAfter Allowed Exchanges
 messages-pass noStep j o x a f = f
-messages-pass (sends p q vs) j o {s} x a f = go (allBound o vs) refl
+messages-pass (sends to q vs) j o {s} x a f = go (maySend o to vs) refl
   where
-    room : (b : Bool) → (leb 64 (s .waiting) && b) ≡ false → b ≡ true → s .waiting < 64
-    room true e h = leb-false 64 (s .waiting) (at (leb 64 (s .waiting)) e)
-      where
-        at : (c : Bool) → (c && true) ≡ false → c ≡ false
-        at true e = e
-        at false e = refl
-    room false e h = absurd (let w : _≡_ {A = ℕ} 0 1 = cc in omega arith)
-
-    go : (b : Bool) → allBound o vs ≡ b → Passes (cond b (adding (record { partner = p; operation = q; count = length vs; values = stored 4 (valuesOf o vs) }) s) s)
+    go : (b : Bool) → maySend o to vs ≡ b → Passes (cond b (adding (sentBy o to q vs) s) s)
     go true e =
-        add-passes (record { partner = p; operation = q; count = length vs; values = stored 4 (valuesOf o vs) }) (room (allBound o vs) a e)
-        (subst (λ (n : ℕ). messageInLimits (record { partner = p; operation = q; count = n; values = stored 4 (valuesOf o vs) }) ≡ true) (values-many o vs)
-        (stored-limits p q (valuesOf o vs) (rw (values-many o vs) x))) f
+        let y : exchanged (partnerTo o to) q (length vs) (replyOf to) ≡ true = both (allBound o (heldBy to ++ vs)) (reaches o to) e (λ g h. x o h) in
+        add-passes (sentBy o to q vs) (send-room (s .waiting) o to vs a e)
+        (subst (λ (n : ℕ). messageInLimits (record { partner = partnerTo o to; operation = q; count = n; values = stored 4 (valuesOf o vs); reply = replyOf to }) ≡ true) (values-many o vs)
+        (stored-limits (partnerTo o to) q (valuesOf o vs) (replyOf to) (rw (values-many o vs) y))) f
     go false e = f
 messages-pass (takes p q vs) j o x a f = remove-passes j a f
 messages-pass moves j o x a f = f
 messages-pass cuts j o x a f = f
 messages-pass (closes u y) j o x a f = f
 
+store-limits : (f : From) (r : ℕ) (o : Order) → orderInLimits o ≡ true → orderInLimits (storing f r o) ≡ true
+store-limits (fromPartner p) r o e = e
+store-limits (fromAsking p v) r o e = binding-limits v r o e
+
 taking-limits : (d : Doing) (m : Message) (o : Order) → orderInLimits o ≡ true → orderInLimits (orderTaking d m o) ≡ true
 unfolding orderTaking
 taking-limits noStep m o e = e
 taking-limits (sends p q vs) m o e = e
-taking-limits (takes p q vs) m o e = bind-limits vs (m .values) o e
+taking-limits (takes f q vs) m o e = store-limits f (getD (gives m) 4 0) (bindAll vs (gives m) o) (bind-limits vs (gives m) o e)
 taking-limits moves m o e = e
 taking-limits cuts m o e = e
 taking-limits (closes u s) m o e = e
@@ -256,7 +262,7 @@ same s = record { plan = refl; length = refl }
 messages-same : (d : Doing) (j : ℕ) (o : Order) (s : State) → Same s (messagesAfter d j o s)
 unfolding messagesAfter
 messages-same noStep j o s = same s
-messages-same (sends p q vs) j o s = go (allBound o vs) (record { partner = p; operation = q; count = length vs; values = stored 4 (valuesOf o vs) })
+messages-same (sends to q vs) j o s = go (maySend o to vs) (sentBy o to q vs)
   where
     go : (b : Bool) (m : Message) → Same s (cond b (adding m s) s)
     go true m = record { plan = refl; length = refl }
@@ -293,13 +299,13 @@ abbrev CollectedPlan : Plan → ℕ → Collected → Type 0
 CollectedPlan p next r = Planned p next (r .state)
 
 -- a message that was posted
-trimmed-limits : (m : Message) → length (m .values) ≡ 4 → exchanged (m .partner) (m .operation) (m .count) ≡ true → messageInLimits (trimmed m) ≡ true
+trimmed-limits : (m : Message) → length (m .values) ≡ 4 → exchanged (m .partner) (m .operation) (m .count) (m .reply) ≡ true → messageInLimits (trimmed m) ≡ true
 unfolding exchanged
 trimmed-limits m l e =
-    let c : m .count ≤ 4 = both (ltb (m .partner) 64) _ e (λ a b. both (ltb (m .operation) 64) _ b (λ c d. both (leb 1 (m .count)) _ d (λ f g. leb-true _ _ g))) in
+    let c : m .count ≤ 4 = both (ltb (m .partner) 64) _ e (λ a b. both (ltb (m .operation) 64) _ b (λ c d. both (leb 1 (m .count)) _ d (λ f g. both (leb (m .count) 4) _ g (λ h i. leb-true _ _ h)))) in
     let n : length (take (m .count) (m .values)) ≡ m .count = length-take-le (m .count) (m .values) (omega arith) in
-    subst (λ (k : ℕ). messageInLimits (record { partner = m .partner; operation = m .operation; count = k; values = stored 4 (take (m .count) (m .values)) }) ≡ true) n
-    (stored-limits (m .partner) (m .operation) (take (m .count) (m .values)) (rw n e))
+    subst (λ (k : ℕ). messageInLimits (record { partner = m .partner; operation = m .operation; count = k; values = stored 4 (take (m .count) (m .values)); reply = m .reply }) ≡ true) n
+    (stored-limits (m .partner) (m .operation) (take (m .count) (m .values)) (m .reply) (rw n e))
 
 plan-again : {p : Plan} {next : ℕ} {s r : State} → planIn s ≡ found p next → Passes r → Same s r → Planned p next r
 unfolding planIn
@@ -311,7 +317,7 @@ plan-again {p} {next} {s} {r} e f q =
 plan-passes : {p : Plan} {next : ℕ} {s : State} → Planned p next s → Passes s
 plan-passes {s = s} f = passes s (f .long) (plan-found s (f .is) .0)
 
-plan-within : {p : Plan} {next : ℕ} {s : State} → Planned p next s → planWithin p ≡ true
+pub plan-within : {p : Plan} {next : ℕ} {s : State} → Planned p next s → planWithin p ≡ true
 plan-within {s = s} f = accepted-is-within (take (s .length) (s .plan)) (plan-found s (f .is) .1)
 
 module _ {p : Plan} {next : ℕ} {s : State} (f : Planned p next s) where
@@ -328,9 +334,9 @@ module _ {p : Plan} {next : ℕ} {s : State} (f : Planned p next s) where
 
   pub post-keeps : (m : Message) → length (m .values) ≡ 4 → Planned p next (post m s .state)
   unfolding post postBy
-  post-keeps m l = rw (f .is) (ruled (exchanged (m .partner) (m .operation) (m .count)) refl (leb 64 (s .waiting)) refl)
+  post-keeps m l = rw (f .is) (ruled (exchanged (m .partner) (m .operation) (m .count) (m .reply)) refl (leb 64 (s .waiting)) refl)
     where
-      ruled : (a : Bool) → exchanged (m .partner) (m .operation) (m .count) ≡ a → (b : Bool) → leb 64 (s .waiting) ≡ b
+      ruled : (a : Bool) → exchanged (m .partner) (m .operation) (m .count) (m .reply) ≡ a → (b : Bool) → leb 64 (s .waiting) ≡ b
           → PostedPlan p next (cond (not a) (record { refusal = 13; state = s }) (cond b (record { refusal = 14; state = s }) (record { refusal = 0; state = adding (trimmed m) s })))
       ruled false e b g = f
       ruled true e true g = f

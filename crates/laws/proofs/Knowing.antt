@@ -3,35 +3,35 @@ use Prim.Native.Nat.{ℕ, zero, suc, _+_, _<_, _≤_}
 use native.Mathlib.Omega.{arith}
 use mathlib.Core.Path.{_≡_, refl, sym, ap, subst, _∙_}
 use mathlib.Core.Bool.{Bool, true, false, cond, not, _&&_, false≢true}
-use mathlib.Core.List.{List, [], _∷_}
+use mathlib.Core.List.{List, [], _∷_, _++_, append-nil}
 use borrow.Author.Tests.{eqb-true, eqb-false, ltb-true, lt-ltb}
 use lib.Dec.{eqb, ltb, leb}
 use lib.ListN.{length, getD, take, drop, set, replicate, length-set, length-replicate}
-use lib.Seq.{getD-set-same, getD-set-other}
+use lib.Seq.{getD-drop, getD-set-same, getD-set-other}
 use Rattle.plan.specs.Found.{Found, refused, found, among}
 use Rattle.plan.specs.Read.{readPlan}
 use Rattle.plan.specs.Table.{tableOf}
-use Rattle.plan.specs.Tree.{Exp, constant, variable, binary, Own, empty, send, receive, set as setting, raise, leave, choose, repeat, sequence, flow, pick, scope, arm, Act, act, Plan, size, count}
+use Rattle.plan.specs.Tree.{Exp, constant, variable, binary, From, fromPartner, fromAsking, storedBy, Own, empty, send, receive, set as setting, raise, leave, choose, repeat, sequence, flow, pick, scope, arm, Act, act, Plan, size, count}
 use Rattle.plan.specs.Within.{ownWithin, exchangeWithin, variablesWithin, planWithin}
 use Rattle.plan.proofs.Accepts.{both}
 use Rattle.plan.proofs.Limits.{accepted-is-within}
 use Rattle.order.specs.declared.Order.{Order}
 use Rattle.order.specs.declared.End.{End}
 use Rattle.order.specs.declared.End.the-variants.{None, Well, Handled, Failed, Left}
-use Rattle.order.specs.Acting.{startedOrder, allBound}
+use Rattle.order.specs.Acting.{startedOrder, maySend}
 use Rattle.order.specs.Judging.{stepOrder}
 use Rattle.order.specs.Expression.{unboundVariable, Value, fault, value, evaluate}
-use Rattle.order.specs.Lists.{every, stored}
+use Rattle.order.specs.Lists.{every}
 use Rattle.order.specs.Stands.{Stands}
 use Rattle.order.specs.State.{idle, isLive, isBound, valueOf, binding, noOrder}
-use Rattle.order.specs.Taking.{actAt, bindAll, bindOwn, bindAct}
+use Rattle.order.specs.Taking.{actAt, bindAll, storing, bindOwn, bindAct}
 use Rattle.order.proofs.Accepted.{within-spelled}
 use Rattle.order.proofs.PlanStands.{plan-stands, plan-at}
 use Rattle.machine.specs.declared.Message.{Message}
 use Rattle.machine.specs.declared.State.{State}
 use Rattle.machine.specs.declared.Step.{Step}
 use Rattle.machine.specs.declared.Tally.{Tally}
-use Rattle.machine.specs.Calls.{loadedAs, load, loaded, trimmed, postBy, post, partnersOf, foreign, handing, collectBy, collect, dropAt, stepBy, Chosen, refusedChoice, chosen, choosing, refusing, answering, doingAt, messagesAfter, valuesOf, orderTaking, Stepped, stepped, taken, stepChosen, step, Call, posting, collecting, dropping, stepping}
+use Rattle.machine.specs.Calls.{loadedAs, load, loaded, trimmed, postBy, post, partnersOf, foreign, handing, collectBy, collect, dropAt, stepBy, Chosen, refusedChoice, chosen, choosing, refusing, answering, doingAt, messagesAfter, sentBy, gives, orderTaking, Stepped, stepped, taken, stepChosen, step, Call, posting, collecting, dropping, stepping}
 use Rattle.machine.specs.Fit.{Doing, noStep, sends, takes, moves, cuts, closes}
 use Rattle.machine.specs.Limits.{exchanged, planIn, by}
 use Rattle.machine.specs.declared.Collected.{Collected}
@@ -53,7 +53,7 @@ set-taken : (own : Own) (xs : List ℕ) (o : Order) → setBy own (bindOwn own x
 unfolding setBy bindOwn variablesAfter
 set-taken empty xs o = refl
 set-taken (send p q vs) xs o = refl
-set-taken (receive p q vs) xs o = refl
+set-taken (receive f q vs) xs o = refl
 set-taken (setting v e) xs o = refl
 set-taken (raise zero) xs o = refl
 set-taken (raise (suc number)) xs o = refl
@@ -74,11 +74,15 @@ unfolding bindAll
 bind-root [] xs o = refl
 bind-root (v ∷ vs) xs o = bind-root vs (drop 1 xs) (binding v (getD xs 0 0) o)
 
+store-root : (f : From) (r : ℕ) (o : Order) → storing f r o .root ≡ o .root
+store-root (fromPartner p) r o = refl
+store-root (fromAsking p v) r o = refl
+
 taking-root : (d : Doing) (m : Message) (o : Order) → orderTaking d m o .root ≡ o .root
 unfolding orderTaking
 taking-root noStep m o = refl
 taking-root (sends p q vs) m o = refl
-taking-root (takes p q vs) m o = bind-root vs (m .values) o
+taking-root (takes f q vs) m o = store-root f (getD (gives m) 4 0) (bindAll vs (gives m) o) ∙ bind-root vs (gives m) o
 taking-root moves m o = refl
 taking-root cuts m o = refl
 taking-root (closes u s) m o = refl
@@ -86,7 +90,7 @@ taking-root (closes u s) m o = refl
 messages-orders : (d : Doing) (j : ℕ) (o : Order) (s : State) → messagesAfter d j o s .orders ≡ s .orders
 unfolding messagesAfter
 messages-orders noStep j o s = refl
-messages-orders (sends p q vs) j o s = go (allBound o vs) (record { partner = p; operation = q; count = length vs; values = stored 4 (valuesOf o vs) })
+messages-orders (sends to q vs) j o s = go (maySend o to vs) (sentBy o to q vs)
   where
     go : (b : Bool) (m : Message) → _≡_ {A = List Order} (cond b (adding m s) s .orders) (s .orders)
     go true m = refl
@@ -114,7 +118,7 @@ module _ (p : Plan) (s : State) (x : Offer) (h : x .slot < length (s .orders)) (
   letter = getD (s .messages) (x .place) noMessage
 
   abbrev wanted : Order
-  wanted = variablesAfter (ownOf (actAt p (x .activity))) (letter .values) (actor p (s .orders) (x .slot))
+  wanted = variablesAfter (ownOf (actAt p (x .activity))) (gives letter) (actor p (s .orders) (x .slot))
 
   slot-goes : (t : Tally) (l : List _) → let r = stepped p x s t (actor p (s .orders) (x .slot)) l in Goes (r .answer .end) wanted (getD (r .state .orders) (x .slot) noOrder)
   unfolding stepped
@@ -122,9 +126,9 @@ module _ (p : Plan) (s : State) (x : Offer) (h : x .slot < length (s .orders)) (
       let o = actor p (s .orders) (x .slot) in
       let d = doingAt p (x .activity) in
       let q = orderTaking d letter o in
-      let a : bindAct (actAt p (x .activity)) (letter .values) o ≡ q = takes-same p (x .activity) g letter o in
+      let a : bindAct (actAt p (x .activity)) (gives letter) o ≡ q = takes-same p (x .activity) g letter o in
       let e : eqb (q .root) idle ≡ false = rw (taking-root d letter o) (acting-live p (getD (s .orders) (x .slot) noOrder)) in
-      let w : setBy (ownOf (actAt p (x .activity))) q ≡ wanted = ap (setBy (ownOf (actAt p (x .activity)))) (sym a) ∙ act-taken (actAt p (x .activity)) (letter .values) o in
+      let w : setBy (ownOf (actAt p (x .activity))) q ≡ wanted = ap (setBy (ownOf (actAt p (x .activity)))) (sym a) ∙ act-taken (actAt p (x .activity)) (gives letter) o in
       let m = stepOrder p (x .activity) q in
       let y : getD (set (messagesAfter d (x .place) o s .orders) (x .slot) (m .order)) (x .slot) noOrder ≡ m .order =
       ap (λ (z : List Order). getD (set z (x .slot) (m .order)) (x .slot) noOrder) (messages-orders d (x .place) o s) ∙ getD-set-same (s .orders) (x .slot) (m .order) noOrder h in
@@ -178,10 +182,10 @@ evaluate-worth (variable v) {o} f = go (isBound o v) ∙ ap toValue (f .is v)
 evaluate-worth (binary op x y) f = rw (evaluate-worth x f, evaluate-worth y f)
 
 -- the variables that an activity of an accepted plan names are among the 16
-Lower : Own → Type 0
+unfoldable pub Lower : Own → Type 0
 Lower empty = Unit
 Lower (send p q vs) = Unit
-Lower (receive p q vs) = every (λ v. ltb v 16) vs ≡ true
+Lower (receive f q vs) = every (λ v. ltb v 16) (vs ++ storedBy f) ≡ true
 Lower (setting v e) = v < 16
 Lower (raise number) = Unit
 Lower leave = Unit
@@ -205,11 +209,22 @@ unfolding exchangeWithin
 lower-exchange vars once p q vs h e =
     both (ltb p 64) _ e (λ a b. both (ltb q 64) _ b (λ c d. both (leb 1 (length vs)) _ d (λ f g. both (leb (length vs) 4) _ g (λ i j. lower-all vars once vs h j))))
 
+lower-more : (vs : List ℕ) (v : ℕ) → every (λ v. ltb v 16) vs ≡ true → v < 16 → every (λ v. ltb v 16) (vs ++ (v ∷ [])) ≡ true
+unfolding every
+lower-more [] v e h = rw (lt-ltb v 16 h)
+lower-more (w ∷ vs) v e h = both (ltb w 16) _ e (λ a b. rw (a, lower-more vs v b h))
+
 lower-own : (vars : ℕ) (cs : List ℕ) (h r : Bool) (own : Own) (n : ℕ) → vars ≤ 16 → ownWithin vars cs h r own n ≡ true → Lower own
 unfolding Lower ownWithin
 lower-own vars cs h r empty n f e = tt
 lower-own vars cs h r (send p q vs) n f e = tt
-lower-own vars cs h r (receive p q vs) n f e = both (not r) _ e (λ a b. both (eqb n 0) _ b (λ c d. lower-exchange vars true p q vs f d))
+lower-own vars cs h r (receive (fromPartner p) q vs) n f e = both (not r) _ e (λ a b. both (eqb n 0) _ b (λ c d. rw (append-nil vs) (lower-exchange vars true p q vs f d)))
+lower-own vars cs h r (receive (fromAsking p v) q vs) n f e =
+    both (not r) _ e (λ a b.
+    both (eqb n 0) _ b (λ c d.
+    both (exchangeWithin vars true p q vs) _ d (λ g i.
+    both (ltb v vars) _ i (λ j k.
+    lower-more vs v (lower-exchange vars true p q vs f g) (omega (arith, ltb-true v vars j, f))))))
 lower-own vars cs h r (setting v x) n f e = both (not r) _ e (λ a b. both (eqb n 0) _ b (λ c d. both (ltb v vars) _ d (λ g i. omega (arith, ltb-true v vars g, f))))
 lower-own vars cs h r (raise number) n f e = tt
 lower-own vars cs h r leave n f e = tt
@@ -221,7 +236,7 @@ lower-own vars cs h r pick n f e = tt
 lower-own vars cs h r (scope ns u) n f e = tt
 lower-own vars cs h r (arm p q vs) n f e = both r _ e (λ a b. both (eqb n 1) _ b (λ c d. lower-exchange vars true p q vs f d))
 
-lower-at : (p : Plan) (t : ℕ) → planWithin p ≡ true → t < size (p .body) + size (p .fault) → Lower (ownOf (actAt p t))
+pub lower-at : (p : Plan) (t : ℕ) → planWithin p ≡ true → t < size (p .body) + size (p .fault) → Lower (ownOf (actAt p t))
 unfolding Stands
 lower-at p t h g = go (actAt p t) (plan-at p _ _ (plan-stands (within-spelled p h)) t g)
   where
@@ -234,11 +249,28 @@ unfolding bindAll takeGives every
 knows-take [] xs e f = f
 knows-take (v ∷ vs) xs e f = both (ltb v 16) _ e (λ a b. knows-take vs (drop 1 xs) b (knows-binding v (getD xs 0 0) (ltb-true v 16 a) f))
 
+every-first : (vs ws : List ℕ) → every (λ v. ltb v 16) (vs ++ ws) ≡ true → every (λ v. ltb v 16) vs ≡ true
+unfolding every
+every-first [] ws e = refl
+every-first (v ∷ vs) ws e = both (ltb v 16) _ e (λ a b. rw (a, every-first vs ws b))
+
+pub every-rest : (vs ws : List ℕ) → every (λ v. ltb v 16) (vs ++ ws) ≡ true → every (λ v. ltb v 16) ws ≡ true
+unfolding every
+every-rest [] ws e = e
+every-rest (v ∷ vs) ws e = both (ltb v 16) _ e (λ a b. every-rest vs ws b)
+
+-- and what stores the reply partner
+knows-store : (g : From) (xs : List ℕ) {o : Order} {l : List Given} → every (λ v. ltb v 16) (storedBy g) ≡ true → Knows o l
+    → Knows (storing g (getD xs 4 0) o) (takeGives (storedBy g) (drop 4 xs) l)
+unfolding takeGives every
+knows-store (fromPartner p) xs e f = f
+knows-store (fromAsking p v) xs e f = both (ltb v 16) _ e (λ a b. rw (getD-drop 4 xs 0 0) (knows-binding v (getD xs 4 0) (ltb-true v 16 a) f))
+
 knows-after : (own : Own) (xs : List ℕ) {o : Order} {l : List Given} → Lower own → Knows o l → Knows (variablesAfter own xs o) (ownGives own xs l)
 unfolding Lower variablesAfter ownGives
 knows-after empty xs h f = f
 knows-after (send p q vs) xs h f = f
-knows-after (receive p q vs) xs h f = knows-take vs xs h f
+knows-after (receive g q vs) xs h f = knows-store g xs (every-rest vs _ h) (knows-take vs xs (every-first vs _ h) f)
 knows-after (setting v e) xs {o} {l} h f = rw (evaluate-worth e f) (go (worth e l))
   where
     go : (x : Value) → Knows (setTo v x o) (setGives v x l)
@@ -327,7 +359,7 @@ post-kept m s = go (planIn s)
 
     go : (g : Found Plan) → KeptPosted s (by (record { refusal = 17; state = s }) (λ p. postBy p m s) g)
     go (refused n k) = kept s
-    go (found p n) = ruled (exchanged (m .partner) (m .operation) (m .count)) (leb 64 (s .waiting))
+    go (found p n) = ruled (exchanged (m .partner) (m .operation) (m .count) (m .reply)) (leb 64 (s .waiting))
 
 handing-kept : (i : ℕ) (s : State) → Kept s (handing i s .state)
 unfolding handing
@@ -378,7 +410,7 @@ module _ (p : Plan) (s : State) (x : Offer) (t : Tally) where
 
 -- an order that has not had this step; one that has
 abbrev toldAs : Plan → State → Offer → End → Told → Told
-toldAs p s x e q = unlessEnded e (ownGives (ownOf (actAt p (x .activity))) (getD (s .messages) (x .place) noMessage .values) (givenIn q))
+toldAs p s x e q = unlessEnded e (ownGives (ownOf (actAt p (x .activity))) (gives (getD (s .messages) (x .place) noMessage)) (givenIn q))
 
 module _ {p : Plan} {next i : ℕ} (w : planWithin p ≡ true) (s : State) (q : Told) (f : Along p next i s q) where
   abbrev Steps : Stepped → Type 0
@@ -404,7 +436,7 @@ module _ {p : Plan} {next i : ℕ} (w : planWithin p ≡ true) (s : State) (q : 
             long = taken-many p s x t ∙ f .long;
             tells = subst (λ (n : ℕ). Tells (getD (taken p x s t .state .orders) n noOrder) (toldAs p s x (taken p x s t .answer .end) q)) z
                 (goes-tells (taken p x s t .answer .end) _ (getD (taken p x s t .state .orders) (x .slot) noOrder) _ (taken-goes p s x h (g .good .inside) t)
-                (knows-after (ownOf (actAt p (x .activity))) (getD (s .messages) (x .place) noMessage .values) (lower-at p (x .activity) w (g .good .inside))
+                (knows-after (ownOf (actAt p (x .activity))) (gives (getD (s .messages) (x .place) noMessage)) (lower-at p (x .activity) w (g .good .inside))
                 (acting-knows p (getD (s .orders) (x .slot) noOrder) q (rw o (f .tells)))));
           }
       go false d = record {
@@ -489,7 +521,7 @@ known-bound o v x e = go (isBound o v) e
 abbrev Full : (bytes : List ℕ) → Plan → List Call → Tally → State → Step → Type 0
 Full bytes p calls t s a =
     a .refusal ≡ 0 → (l : List Given) → toldFrom bytes p calls (a .slot) t ≡ here l
-    → (partner operation : ℕ) (vs : List ℕ) → doingAt p (a .activity) ≡ takes partner operation vs
+    → (from : From) (operation : ℕ) (vs : List ℕ) → doingAt p (a .activity) ≡ takes from operation vs
     → (i : ℕ) → i < length vs → among (getD vs i 0) (p .correlation) ≡ true → (x : ℕ) → lastOf (getD vs i 0) l ≡ known x
     → getD (getD (s .messages) (a .place) noMessage .values) i 0 ≡ x
 

@@ -8,6 +8,8 @@ pub mod Keeping
 pub mod Promised
 pub mod Variables
 pub mod Knowing
+pub mod Replies
 pub mod Counting
 mod Seventeen
 mod Spoilt
+mod Answered

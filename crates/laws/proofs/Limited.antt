@@ -93,7 +93,7 @@ within-number n e = go (eqb n 0) refl e
 
     go : (b : Bool) → eqb n 0 ≡ b → b || (leb 16 n && leb n 255) ≡ true → isFaultNumber n ≡ true
     go true q x = rw (eqb-true n 0 q)
-    go false q x = low (leb n 4) (leb 16 n && leb n 255) x
+    go false q x = low (leb n 5) (leb 16 n && leb n 255) x
 
 pub limited-raise : (n : ℕ) (l : Acts) → Limited (act (raise n) l) → isFaultNumber n ≡ true
 unfolding actWithin ownWithin

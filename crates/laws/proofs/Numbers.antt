@@ -1,19 +1,19 @@
 -- What a fault that comes out of a step has for its number: one that a fault may have. Assumes nothing.
 use mathlib.Core.Path.{_≡_, refl, sym, _∙_}
 use mathlib.Core.Bool.{Bool, true, false, cond, _||_, false≢true}
-use mathlib.Core.List.{List, [], _∷_}
+use mathlib.Core.List.{List, [], _∷_, _++_}
 use Prim.Native.Nat.{ℕ, _+_, _-_}
 use lib.Dec.{eqb, ltb, leb}
-use Rattle.plan.specs.Tree.{Operation, sum, difference, equal, less, Exp, constant, variable, binary, Own, empty, send, receive, set as setting, raise, leave, choose, repeat, sequence, flow, pick, scope, arm, kind, isScope, undoPart, Act, act, Acts, none, more, Plan, size, sizes}
+use Rattle.plan.specs.Tree.{Operation, sum, difference, equal, less, Exp, constant, variable, binary, heldBy, Own, empty, send, receive, set as setting, raise, leave, choose, repeat, sequence, flow, pick, scope, arm, kind, isScope, undoPart, Act, act, Acts, none, more, Plan, size, sizes}
 use Rattle.order.specs.declared.Order.{Order}
 use Rattle.order.specs.declared.Way.{Way}
 use Rattle.order.specs.declared.Way.the-variants.{Running as running, Over as over, Raising as raising, Leaving as leaving, Undone as undone, UndoRaising as undoRaising}
-use Rattle.order.specs.Expression.{isFaultNumber, unboundVariable, sumTooLarge, belowZero, conflictingReceive, Value, fault, value, truth, applied, both, evaluate, isTrue}
+use Rattle.order.specs.Expression.{isFaultNumber, unboundVariable, noSuchPartner, sumTooLarge, belowZero, conflictingReceive, Value, fault, value, truth, applied, both, evaluate, isTrue}
 use Rattle.order.specs.State.{active, inside, done, faulty, undoing, handling, halted, withdrawing, withMarks, isBound, valueOf, closings, remembering, markAt, marked, markOf, marking, stateOf, choiceOf, going, markWith, causing}
 use Rattle.order.specs.Lists.{withoutLast}
 use Rattle.order.specs.Begin.{Begun, begin, beginAfter, beginPart, partAt, cleared, quiet}
 use Rattle.order.specs.Scope.{Outcome, Scope, runs, after, begunIn, whereOver, scopeAt, choiceFor, chosenPart, chosenAt, isFor, isOpen, closing, innerRuns, rememberedFor, beginUndo, startUndo, undo, stop, ends, handle, undoes, turns, faults, breaks, looksAgain, bodyOver, bodyRaised, undoOver, undoRaised, fromBody, partOver, partRaised, fromFault, goesThrough, fromUndo}
-use Rattle.order.specs.Acting.{finishes, raises, orRaises, enters, again, repeats, allBound, itself, arms, goesOn, joins, inScope, combines, Actor, replaces, performs, stepIn, stepAmong}
+use Rattle.order.specs.Acting.{finishes, raises, orRaises, enters, again, repeats, allBound, reaches, itself, arms, goesOn, joins, inScope, combines, Actor, replaces, performs, stepIn, stepAmong}
 use Rattle.laws.proofs.Limited.{Limited, LimitedAll, limited-within, limited-first, limited-rest, limited-raise}
 
 -- what a scope does of itself runs on or is over
@@ -199,7 +199,9 @@ calm-repeats k l o =
 number-itself : (own : Own) (l : Acts) (c k : ℕ) (o : Order) → Limited (act own l) → Numbered (itself own l c k o)
 unfolding itself closing isFaultNumber
 number-itself empty l c k o w = refl
-number-itself (send p q vs) l c k o w = number-cond (allBound o vs) (finishes k o) (raises unboundVariable k o) refl refl
+number-itself (send to q vs) l c k o w =
+    number-cond (allBound o (heldBy to ++ vs)) (cond (reaches o to) (finishes k o) (raises noSuchPartner k o)) (raises unboundVariable k o)
+    (number-cond (reaches o to) (finishes k o) (raises noSuchPartner k o) refl refl) refl
 number-itself (receive p q vs) l c k o w = refl
 number-itself (setting v e) l c k o w = number-or k o _ (evaluate e o) (number-evaluate e o) (λ n. refl)
 number-itself (raise n) l c k o w = limited-raise n l w

@@ -10,7 +10,7 @@ use lib.Seq.{getD-append-seam, append-snoc}
 use lib.Dec.{leb, ltb, eqb}
 use borrow.Author.Tests.{lt-ltb, le-ltb, leb-false, eq-eqb, ne-eqb}
 use Rattle.plan.proofs.Accepts.{both}
-use Rattle.plan.specs.Tree.{Own, Act, act, Acts, none, more, Plan, size, sizes}
+use Rattle.plan.specs.Tree.{From, partnerFrom, Own, Act, act, Acts, none, more, Plan, size, sizes}
 use Rattle.order.specs.declared.Order.{Order}
 use Rattle.order.specs.Acting.{startedOrder}
 use Rattle.order.specs.Lists.{only, some, each, empties}
@@ -165,22 +165,22 @@ record Offered (p : Plan) (live : List Live) (ms : List Message) (wait : ℕ) (s
   heeds : Heeds d p live starts o (getD ms (x .place) noMessage)
 
 module _ (p : Plan) (live : List Live) (ms : List Message) (wait : ℕ) {l : List Letter} (w : Each (Waits p live ms wait) l) (i : ℕ) (o : Order) (k : ℕ) where
-  letter-heeds : (a b : ℕ) (vs : List ℕ) (x : Letter) → Waits p live ms wait x → mayTake p o a b vs x ≡ true
+  letter-heeds : (a : From) (b : ℕ) (vs : List ℕ) (x : Letter) → Waits p live ms wait x → mayTake p o (partnerFrom a) b vs x ≡ true
       → Heeds (takes a b vs) p live false o (getD ms (x .place) noMessage)
   unfolding Heeds mayTake
-  letter-heeds a b vs x h e = both (fits p o a b vs (x .message)) _ e (λ f g. (rw (sym (h .stands)) f, rw (sym (h .stands), sym (h .fitted)) g))
+  letter-heeds a b vs x h e = both (fits p o (partnerFrom a) b vs (x .message)) _ e (λ f g. (rw (sym (h .stands)) f, rw (sym (h .stands), sym (h .fitted)) g))
 
   step-each : (d : Doing) → Each (Offered p live ms wait false o i k d) (stepOffers p wait l i o k d .offered)
   unfolding stepOffers Allowed Heeds
   step-each noStep = each-none
-  step-each (sends a b vs) = held (sendHeld wait o vs) refl
+  step-each (sends a b vs) = held (sendHeld wait o a vs) refl
     where
-      held : (x : Bool) → sendHeld wait o vs ≡ x → Each (Offered p live ms wait false o i k (sends a b vs)) (unlessHeld x (offering i k 0 ∷ []) .offered)
+      held : (x : Bool) → sendHeld wait o a vs ≡ x → Each (Offered p live ms wait false o i k (sends a b vs)) (unlessHeld x (offering i k 0 ∷ []) .offered)
       held true e = each-none
       held false e = each-more (record { slot = refl; activity = refl; allowed = e; heeds = tt }) each-none
   step-each (takes a b vs) =
       each-map (λ x. offering i k (x .place)) (λ x h. record { slot = refl; activity = refl; allowed = h .0 .is; heeds = letter-heeds a b vs x (h .0) (h .1) })
-      (each-picked (mayTake p o a b vs) w)
+      (each-picked (mayTake p o (partnerFrom a) b vs) w)
   step-each moves = each-more (record { slot = refl; activity = refl; allowed = tt; heeds = tt }) each-none
   step-each cuts = each-more (record { slot = refl; activity = refl; allowed = tt; heeds = tt }) each-none
   step-each (closes u s) = held (closeHeld o u s) refl
@@ -262,11 +262,11 @@ free-each pre (o ∷ l) os e i d = by-test (isLive o) refl (free-each (pre ++ (o
 -- starts: each is a receive of the plan that the message fits, where it fits no open one
 record Starts (p : Plan) (o : Order) (x : Letter) (k : ℕ) : Type 0 where
   inside : k < size (p .body) + size (p .fault)
-  partner : ℕ
+  from : From
   operation : ℕ
   variables : List ℕ
-  is : takes partner operation variables ≡ doingAt p k
-  fit : fits p o partner operation variables (x .message) ≡ true
+  is : takes from operation variables ≡ doingAt p k
+  fit : fits p o (partnerFrom from) operation variables (x .message) ≡ true
   alone : empties (x .fitted) ≡ true
 
 starts-each : (p : Plan) (o : Order) (x : Letter) {l : List Ready} → Each (Does (doingAt p) 0 (size (p .body) + size (p .fault))) l → Each (Starts p o x) (startsOf p o l x)
@@ -277,7 +277,7 @@ starts-each p o x {l} y = each-where (empties (x .fitted)) (λ q. all q y)
     one q a noStep h e = each-none
     one q a (sends b c vs) h e = each-none
     one q a (takes b c vs) h e =
-        each-where (fits p o b c vs (x .message)) (λ f. each-more (record { inside = h; partner = b; operation = c; variables = vs; is = e; fit = f; alone = q }) each-none)
+        each-where (fits p o (partnerFrom b) c vs (x .message)) (λ f. each-more (record { inside = h; from = b; operation = c; variables = vs; is = e; fit = f; alone = q }) each-none)
     one q a moves h e = each-none
     one q a cuts h e = each-none
     one q a (closes u s) h e = each-none
@@ -302,7 +302,7 @@ start-each p s free h x w = by-room (leb 16 free) refl
     by-room true e = no-room (startsOf p (startedOrder p) (readyOf p (startedOrder p)) x)
     by-room false e =
         each-map (λ k. offering free k (x .place)) (λ k z.
-        fine-from p s true (startedOrder p) free k (takes (z .partner) (z .operation) (z .variables)) (pick-false (isLive (getD (s .orders) free noOrder)) _ _ h) (ap not h) (z .is) (z .inside)
+        fine-from p s true (startedOrder p) free k (takes (z .from) (z .operation) (z .variables)) (pick-false (isLive (getD (s .orders) free noOrder)) _ _ h) (ap not h) (z .is) (z .inside)
         (λ q. leb-false 16 free e) (offering free k (x .place))
         (record { slot = refl; activity = refl; allowed = w .is; heeds = (rw (sym (w .stands)) (z .fit), rw (sym (w .stands), sym (w .fitted)) (z .alone)) }))
         (starts-each p (startedOrder p) x (plan-ready p (startedOrder p)))

@@ -10,10 +10,10 @@ use lib.Dec.{eqb, leb, ltb}
 use lib.ListN.{length, getD, take, drop, set}
 use lib.Seq.{take-append-le}
 use Rattle.plan.specs.Found.{Found, refused, found, among}
-use Rattle.plan.specs.Tree.{Plan}
+use Rattle.plan.specs.Tree.{From, partnerFrom, Plan}
 use Rattle.plan.proofs.Accepts.{both}
 use Rattle.order.specs.declared.Order.{Order}
-use Rattle.order.specs.Acting.{startedOrder, begunOrder, allBound}
+use Rattle.order.specs.Acting.{startedOrder, begunOrder, maySend}
 use Rattle.order.specs.Event.{Event, started}
 use Rattle.order.specs.Lists.{every, empties, stored}
 use Rattle.order.specs.State.{isLive, isBound, valueOf, noOrder}
@@ -23,7 +23,7 @@ use Rattle.machine.specs.declared.Collected.{Collected}
 use Rattle.machine.specs.declared.State.{State}
 use Rattle.machine.specs.declared.Step.{Step}
 use Rattle.machine.specs.declared.Tally.{Tally}
-use Rattle.machine.specs.Calls.{postBy, post, handing, collectBy, collect, dropAt, foreign, partnersOf, trimmed, Chosen, refusedChoice, chosen, nth, choosing, refusing, answering, doingAt, valuesOf, messagesAfter, countStart, Stepped, stepped, taken, stepChosen, stepBy, step, Ran, oneMore, ranOn, runBy, run}
+use Rattle.machine.specs.Calls.{postBy, post, handing, collectBy, collect, dropAt, foreign, partnersOf, trimmed, Chosen, refusedChoice, chosen, nth, choosing, refusing, answering, doingAt, sentBy, messagesAfter, countStart, Stepped, stepped, taken, stepChosen, stepBy, step, Ran, oneMore, ranOn, runBy, run}
 use Rattle.machine.specs.Fit.{Doing, noStep, sends, takes, moves, cuts, closes, liveFrom, isChecked, agrees, fits, unchecked, fittings}
 use Rattle.machine.specs.Limits.{exchanged, planIn, by}
 use Rattle.machine.specs.Offer.{Offer, Offers, offering, offersOf}
@@ -138,7 +138,7 @@ fits-agrees p o a b vs m e =
     both (eqb (m .partner) a) _ e (λ f g. both (eqb (m .operation) b) _ g (λ h k. both (eqb (m .count) (length vs)) _ k (λ u v. v)))
 
 -- what is known of the message of a step that takes one
-module _ (p : Plan) (s : State) (c : ℕ) (x : Offer) (e : choosing (offersOf p s) c ≡ chosen x) (a b : ℕ) (vs : List ℕ) (d : doingAt p (x .activity) ≡ takes a b vs) where
+module _ (p : Plan) (s : State) (c : ℕ) (x : Offer) (e : choosing (offersOf p s) c ≡ chosen x) (a : From) (b : ℕ) (vs : List ℕ) (d : doingAt p (x .activity) ≡ takes a b vs) where
   abbrev here : Order
   here = getD (s .orders) (x .slot) noOrder
 
@@ -160,7 +160,7 @@ module _ (p : Plan) (s : State) (c : ℕ) (x : Offer) (e : choosing (offersOf p 
 pub taken-in-full : TakenInFull
 unfolding TakenInFull Heeds
 taken-in-full p s c x e l a b vs d i h k q =
-    agrees-at p (here p s c x e a b vs d) vs _ (fits-agrees p _ a b vs _ (live-taking p s c x e a b vs d l .0)) i h (rw (k, q))
+    agrees-at p (here p s c x e a b vs d) vs _ (fits-agrees p _ (partnerFrom a) b vs _ (live-taking p s c x e a b vs d l .0)) i h (rw (k, q))
 
 every-at : (f : ℕ → Bool) (l : List ℕ) (i : ℕ) → every f l ≡ true → i < length l → f (getD l i 0) ≡ true
 unfolding every
@@ -194,7 +194,7 @@ refused-post m s = go (planIn s)
     go : (g : Found Plan) → (by {A = Posted} (record { refusal = 17; state = s }) (λ p. postBy p m s) g .refusal ≡ 0 → ⊥)
         → by {A = Posted} (record { refusal = 17; state = s }) (λ p. postBy p m s) g .state ≡ s
     go (refused n k) f = refl
-    go (found p n) f = ruled (exchanged (m .partner) (m .operation) (m .count)) (leb 64 (s .waiting)) f
+    go (found p n) f = ruled (exchanged (m .partner) (m .operation) (m .count) (m .reply)) (leb 64 (s .waiting)) f
 
 refused-handing : (i : ℕ) (s : State) → (handing i s .refusal ≡ 0 → ⊥) → handing i s .state ≡ s
 unfolding handing
@@ -296,13 +296,13 @@ letters-moved : (d : Doing) (j : ℕ) (o : Order) (s : State) → length (s .mes
     → letters (messagesAfter d j o s) ≡ lettersAfter d j o (letters s)
 unfolding messagesAfter lettersAfter Allowed
 letters-moved noStep j o s l w a = refl
-letters-moved (sends p q vs) j o s l w a = go (allBound o vs) refl
+letters-moved (sends to q vs) j o s l w a = go (maySend o to vs) refl
   where
     m : Message
-    m = record { partner = p; operation = q; count = length vs; values = stored 4 (valuesOf o vs) }
+    m = sentBy o to q vs
 
-    go : (b : Bool) → allBound o vs ≡ b → letters (cond b (adding m s) s) ≡ cond b (letters s ++ (m ∷ [])) (letters s)
-    go true e = rw (add-one (s .waiting)) (take-more (s .messages) (s .waiting) m (omega (arith, l, send-room (s .waiting) o vs a e)))
+    go : (b : Bool) → maySend o to vs ≡ b → letters (cond b (adding m s) s) ≡ cond b (letters s ++ (m ∷ [])) (letters s)
+    go true e = rw (add-one (s .waiting)) (take-more (s .messages) (s .waiting) m (omega (arith, l, send-room (s .waiting) o to vs a e)))
     go false e = refl
 letters-moved (takes p q vs) j o s l w a =
     let k = s .waiting - 1 in

@@ -7,17 +7,17 @@ use native.Mathlib.Omega.{arith}
 use borrow.Author.Tests.{ltb-false, lt-ltb}
 use lib.Dec.{eqb, ltb}
 use lib.ListN.{length, getD, drop}
-use Rattle.plan.specs.Tree.{Exp, Own, empty, send, receive, set as setting, raise, leave, choose, repeat, sequence, flow, pick, scope, arm, hasUndo, Act, act, Acts, none, more, Plan, size}
+use Rattle.plan.specs.Tree.{Exp, From, fromPartner, fromAsking, Own, empty, send, receive, set as setting, raise, leave, choose, repeat, sequence, flow, pick, scope, arm, hasUndo, Act, act, Acts, none, more, Plan, size}
 use Rattle.order.specs.Lists.{only}
 use Rattle.order.specs.Room.{hasRoom, roomIn, roomAmong, roomPlan}
 use Rattle.order.specs.Scope.{Scope, isFor, forgetting, scopeAt}
 use Rattle.order.specs.State.{closings, binding}
-use Rattle.order.specs.Taking.{actIn, actAmong, bindAll, bindOwn, bindAct, taking}
+use Rattle.order.specs.Taking.{actIn, actAmong, bindAll, storing, bindOwn, bindAct, taking}
 use Rattle.machine.specs.declared.Message.{Message}
 use Rattle.order.specs.declared.Closing.{Closing}
 use Rattle.order.specs.declared.Order.{Order}
 use Rattle.order.proofs.MemoryReturns.{closings-are}
-use Rattle.machine.specs.Calls.{doingIn, doingAmong, doingAt, orderTaking}
+use Rattle.machine.specs.Calls.{doingIn, doingAmong, doingAt, gives, orderTaking}
 use Rattle.machine.specs.Fit.{Doing, noStep, sends, takes, moves, cuts, closes, doingOf}
 use Rattle.machine.specs.Offer.{closeHeld}
 
@@ -103,7 +103,7 @@ close-room o true s h =
     lt-ltb (length xs) 32 (omega arith)
 
 -- what a take binds, by the step that an activity is there for and by what it says of itself
-own-takes : (own : Own) (l : Acts) (k : ℕ) (m : Message) (o : Order) → orderTaking (doingOf own l k) m o ≡ bindOwn own (m .values) o
+own-takes : (own : Own) (l : Acts) (k : ℕ) (m : Message) (o : Order) → orderTaking (doingOf own l k) m o ≡ bindOwn own (gives m) o
 unfolding doingOf orderTaking bindOwn
 own-takes empty l k m o = refl
 own-takes (send p q vs) l k m o = refl
@@ -120,36 +120,36 @@ own-takes pick l k m o = refl
 own-takes (scope ns u) l k m o = refl
 own-takes (arm p q vs) l k m o = refl
 
-none-takes : (m : Message) (o : Order) → orderTaking noStep m o ≡ bindAct (act empty none) (m .values) o
+none-takes : (m : Message) (o : Order) → orderTaking noStep m o ≡ bindAct (act empty none) (gives m) o
 unfolding orderTaking bindOwn
 none-takes m o = refl
 
 mutual
   unfolding actIn doingIn
 
-  in-takes : (a : Act) (k t : ℕ) (m : Message) (o : Order) → orderTaking (doingIn a k t) m o ≡ bindAct (actIn a k t) (m .values) o
+  in-takes : (a : Act) (k t : ℕ) (m : Message) (o : Order) → orderTaking (doingIn a k t) m o ≡ bindAct (actIn a k t) (gives m) o
   in-takes (act own l) k t m o = by-test (eqb k t) (own-takes own l k m o) (among-takes l (k + 1) t m o)
     where
-      by-test : (b : Bool) → orderTaking (doingOf own l k) m o ≡ bindOwn own (m .values) o
-          → orderTaking (doingAmong l (k + 1) t) m o ≡ bindAct (actAmong l (k + 1) t) (m .values) o
+      by-test : (b : Bool) → orderTaking (doingOf own l k) m o ≡ bindOwn own (gives m) o
+          → orderTaking (doingAmong l (k + 1) t) m o ≡ bindAct (actAmong l (k + 1) t) (gives m) o
           → orderTaking (elim b [ true ↦ doingOf own l k | false ↦ doingAmong l (k + 1) t ]) m o
-          ≡ bindAct (elim b [ true ↦ act own l | false ↦ actAmong l (k + 1) t ]) (m .values) o
+          ≡ bindAct (elim b [ true ↦ act own l | false ↦ actAmong l (k + 1) t ]) (gives m) o
       by-test true e f = e
       by-test false e f = f
 
-  among-takes : (l : Acts) (c t : ℕ) (m : Message) (o : Order) → orderTaking (doingAmong l c t) m o ≡ bindAct (actAmong l c t) (m .values) o
+  among-takes : (l : Acts) (c t : ℕ) (m : Message) (o : Order) → orderTaking (doingAmong l c t) m o ≡ bindAct (actAmong l c t) (gives m) o
   among-takes none c t m o = none-takes m o
   among-takes (more a l) c t m o = by-test (ltb t (c + size a)) (in-takes a c t m o) (among-takes l (c + size a) t m o)
     where
-      by-test : (b : Bool) → orderTaking (doingIn a c t) m o ≡ bindAct (actIn a c t) (m .values) o
-          → orderTaking (doingAmong l (c + size a) t) m o ≡ bindAct (actAmong l (c + size a) t) (m .values) o
+      by-test : (b : Bool) → orderTaking (doingIn a c t) m o ≡ bindAct (actIn a c t) (gives m) o
+          → orderTaking (doingAmong l (c + size a) t) m o ≡ bindAct (actAmong l (c + size a) t) (gives m) o
           → orderTaking (elim b [ true ↦ doingIn a c t | false ↦ doingAmong l (c + size a) t ]) m o
-          ≡ bindAct (elim b [ true ↦ actIn a c t | false ↦ actAmong l (c + size a) t ]) (m .values) o
+          ≡ bindAct (elim b [ true ↦ actIn a c t | false ↦ actAmong l (c + size a) t ]) (gives m) o
       by-test true e f = e
       by-test false e f = f
 
 -- the order that `order` gives for a take is the definition's, for an activity of the plan
-pub takes-same : (p : Plan) (t : ℕ) → t < size (p .body) + size (p .fault) → (m : Message) (o : Order) → taking p t (m .values) o ≡ orderTaking (doingAt p t) m o
+pub takes-same : (p : Plan) (t : ℕ) → t < size (p .body) + size (p .fault) → (m : Message) (o : Order) → taking p t (gives m) o ≡ orderTaking (doingAt p t) m o
 unfolding doingAt doingIn
 takes-same p t h m o =
     let z : 0 + size (p .body) ≡ size (p .body) = omega arith in
@@ -175,11 +175,15 @@ unfolding bindAll
 bind-closings [] xs o = refl
 bind-closings (v ∷ vs) xs o = bind-closings vs (drop 1 xs) (binding v (getD xs 0 0) o)
 
+store-closings : (f : From) (r : ℕ) (o : Order) → closings (storing f r o) ≡ closings o
+store-closings (fromPartner p) r o = refl
+store-closings (fromAsking p v) r o = refl
+
 pub take-closings : (d : Doing) (m : Message) (o : Order) → closings (orderTaking d m o) ≡ closings o
 unfolding orderTaking
 take-closings noStep m o = refl
 take-closings (sends p q vs) m o = refl
-take-closings (takes p q vs) m o = bind-closings vs (m .values) o
+take-closings (takes f q vs) m o = store-closings f (getD (gives m) 4 0) (bindAll vs (gives m) o) ∙ bind-closings vs (gives m) o
 take-closings moves m o = refl
 take-closings cuts m o = refl
 take-closings (closes u s) m o = refl

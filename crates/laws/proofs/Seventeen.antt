@@ -14,13 +14,14 @@ use Rattle.machine.specs.State.{noMessage, fresh, unplanned, noTally, withOrder
 use Rattle.machine.specs.Limits.{inLimits}
 use Rattle.machine.specs.Calls.{post, collect, dropAt, preview, step, run}
 use Rattle.machine.specs.Computing.{computing}
+use Rattle.laws.specs.Replies.{answeredTo}
 
 -- document 01's plan A, and a message that starts an order of it
 planA : List ℕ
 planA = 1 ∷ 2 ∷ 1 ∷ 0 ∷ 2 ∷ 3 ∷ 5 ∷ 2 ∷ 0 ∷ 1 ∷ 0 ∷ []
 
 abbrev letter : (partner operation count : ℕ) → List ℕ → Message
-letter p o n l = record { partner = p; operation = o; count = n; values = l }
+letter p o n l = record { partner = p; operation = o; count = n; values = l; reply = 0 }
 
 abbrev holding : Order → State
 holding o = withOrder 7 o (fresh planA)
@@ -79,13 +80,14 @@ withCause n =
 wrong : List State
 wrong =
     holding (marked 255 9 noOrder) ∷ holding (marked 255 23 noOrder) ∷ holding (withRoot 2 noOrder) ∷ holding (withRoot 9 noOrder) ∷ holding (withRoot 17 noOrder) ∷ holding (withBound 15 2) ∷ holding (withKept 33)
-    ∷ holding (withCause 5) ∷ holding (withCause 15) ∷ holding (withCause 256)
+    ∷ holding (withCause 6) ∷ holding (withCause 15) ∷ holding (withCause 256)
     ∷ withMessages (fresh planA .messages) 65 (fresh planA)
     ∷ having (letter 64 5 1 (7 ∷ 0 ∷ 0 ∷ 0 ∷ []))
     ∷ having (letter 3 64 1 (7 ∷ 0 ∷ 0 ∷ 0 ∷ []))
     ∷ having (letter 3 5 0 (0 ∷ 0 ∷ 0 ∷ 0 ∷ []))
     ∷ having (letter 3 5 5 (7 ∷ 0 ∷ 0 ∷ 0 ∷ []))
     ∷ having (letter 3 5 2 (7 ∷ 9 ∷ 0 ∷ 1 ∷ []))
+    ∷ having (answeredTo 64 (letter 3 5 1 (7 ∷ 0 ∷ 0 ∷ 0 ∷ [])))
     ∷ cut 4097
     ∷ cut 12
     ∷ cut 10
@@ -96,9 +98,10 @@ wrong =
 within : List State
 within =
     fresh planA ∷ holding (marked 255 8 noOrder) ∷ holding (marked 255 246 noOrder) ∷ holding (withRoot 6 noOrder) ∷ holding (withRoot 148 noOrder) ∷ holding (withBound 15 1) ∷ holding (withKept 32)
-    ∷ holding (withCause 4) ∷ holding (withCause 16) ∷ holding (withCause 255)
+    ∷ holding (withCause 5) ∷ holding (withCause 16) ∷ holding (withCause 255)
     ∷ having (letter 63 63 1 (7 ∷ 0 ∷ 0 ∷ 0 ∷ []))
     ∷ having (letter 3 5 4 (7 ∷ 9 ∷ 0 ∷ 1 ∷ []))
+    ∷ having (answeredTo 63 (letter 3 5 1 (7 ∷ 0 ∷ 0 ∷ 0 ∷ [])))
     ∷ []
 
 -- every call on a state answers 17, a run with an empty list and budget too

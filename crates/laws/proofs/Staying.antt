@@ -8,7 +8,7 @@ use borrow.Author.Tests.{eqb-true, lt-ltb, le-leb, leb-true, ltb-true}
 use lib.Dec.{eqb, ltb, leb}
 use lib.ListN.{length, getD, take, drop, set, length-append, length-map, length-reverse}
 use Rattle.plan.specs.Found.{among}
-use Rattle.plan.specs.Tree.{Exp, Own, empty, send, receive, set as setting, raise, leave, choose, repeat, sequence, flow, pick, scope, arm, kind, isScope, hasUndo, numbersOf, undoPart, isPick, Act, act, Acts, none, more, Plan, size, sizes}
+use Rattle.plan.specs.Tree.{Exp, heldBy, Own, empty, send, receive, set as setting, raise, leave, choose, repeat, sequence, flow, pick, scope, arm, kind, isScope, hasUndo, numbersOf, undoPart, isPick, Act, act, Acts, none, more, Plan, size, sizes}
 use Rattle.plan.proofs.Accepts.{both}
 use Rattle.order.specs.declared.Closing.{Closing}
 use Rattle.plan.specs.Within.{planWithin}
@@ -19,11 +19,11 @@ use Rattle.order.specs.declared.End.{End}
 use Rattle.order.specs.declared.End.the-variants.{None, Well, Handled, Failed, Left}
 use Rattle.order.specs.Lists.{every, only, withoutFirst, withoutLast}
 use Rattle.order.specs.Event.{Event}
-use Rattle.order.specs.Expression.{isFaultNumber, unboundVariable, conflictingReceive, Value, fault, value, evaluate, isTrue}
+use Rattle.order.specs.Expression.{isFaultNumber, unboundVariable, noSuchPartner, conflictingReceive, Value, fault, value, evaluate, isTrue}
 use Rattle.order.specs.State.{idle, active, inside, done, faulty, undoing, handling, halted, withdrawing, Name, root, inner, withMarks, withRoot, binding, closingOf, closings, remembering, markAt, marked, markOf, marking, stateOf, choiceOf, going, markWith, stateIn, causing, noOrder}
 use Rattle.order.specs.Begin.{Begun, begin, beginInTurn, beginAll, beginFirst, beginAfter, beginPart, part, partAt, throughout, around, itsBeginning, inTurn, sideBySide, nothingBegun, awaiting, cleared, quiet}
 use Rattle.order.specs.Scope.{Outcome, Scope, Stopped, runs, after, begunIn, scopeAt, choiceFor, chosenPart, chosenAt, rootOf, isFor, listOf, rememberedFor, forgetting, adds, closing, innerRuns, beginUndo, beginUndoFirst, beginUndoIn, whereOver, startUndo, undo, ends, handle, undoes, turns, isOpen, untouched, alsoStopped, withdraws, stop, stopAll, stopFirst, faults, breaks, looksAgain, bodyOver, bodyRaised, undoOver, undoRaised, fromBody, partOver, partRaised, fromFault, goesThrough, fromUndo}
-use Rattle.order.specs.Acting.{finishes, raises, leaves, orRaises, enters, again, repeats, allBound, itself, isPart, arms, goesOn, joins, inScope, combines, stepIn, stepAmong, stepRoot, endOf, movedTo, startedOrder, begunOrder, Actor, itsOwn, inPlace, replaces, performs, Moved, acted}
+use Rattle.order.specs.Acting.{finishes, raises, leaves, orRaises, enters, again, repeats, allBound, reaches, itself, isPart, arms, goesOn, joins, inScope, combines, stepIn, stepAmong, stepRoot, endOf, movedTo, startedOrder, begunOrder, Actor, itsOwn, inPlace, replaces, performs, Moved, acted}
 use Rattle.order.specs.Awaited.{Doing, noStep, sends, takes, moves, cuts, closes, Ready, readyOf}
 use Rattle.order.specs.Judging.{isSecond, Verdict, clear, clash, clashAfter, conflict, following, upon, judged, spare, settled, stepOrder}
 use Rattle.machine.specs.Calls.{doingAt}
@@ -537,7 +537,9 @@ module _ {z : ℕ} where
   fine-itself : {o : Order} (own : Own) (l : Acts) (c k : ℕ) → hasRoom own l k (closings o) ≡ true → Fine false z o → Fine false z (itself own l c k o .order)
   unfolding itself hasRoom
   fine-itself empty l c k h f = f
-  fine-itself {o} (send p q vs) l c k h f = fine-cond (allBound o vs) (finishes k o) (raises unboundVariable k o) (fine-marked k idle refl f) (fine-marked k idle refl f)
+  fine-itself {o} (send to q vs) l c k h f =
+      fine-cond (allBound o (heldBy to ++ vs)) (cond (reaches o to) (finishes k o) (raises noSuchPartner k o)) (raises unboundVariable k o)
+      (fine-cond (reaches o to) (finishes k o) (raises noSuchPartner k o) (fine-marked k idle refl f) (fine-marked k idle refl f)) (fine-marked k idle refl f)
   fine-itself (receive p q vs) l c k h f = fine-marked k idle refl f
   fine-itself {o} (setting v e) l c k h f =
       fine-or k (λ n. finishes k (binding v n o)) (evaluate e o) f (λ n. fine-marked k idle refl (fine-binding v n f))
@@ -813,7 +815,10 @@ start-limits p =
     let s = small-begin (p .body) 0 (noOrder .marks) (f .marks) in
     fine-limits {z = 0} (record { root = refl; marks = s; bound = f .bound; kept = f .kept; cause = f .cause })
 
+pub binding-limits : (v x : ℕ) (o : Order) → orderInLimits o ≡ true → orderInLimits (binding v x o) ≡ true
+binding-limits v x o e = fine-limits (fine-binding v x (limits-fine o e))
+
 pub bind-limits : (vs xs : List ℕ) (o : Order) → orderInLimits o ≡ true → orderInLimits (bindAll vs xs o) ≡ true
 unfolding bindAll
 bind-limits [] xs o e = e
-bind-limits (v ∷ vs) xs o e = bind-limits vs (drop 1 xs) (binding v (getD xs 0 0) o) (fine-limits (fine-binding v (getD xs 0 0) (limits-fine o e)))
+bind-limits (v ∷ vs) xs o e = bind-limits vs (drop 1 xs) (binding v (getD xs 0 0) o) (binding-limits v (getD xs 0 0) o e)

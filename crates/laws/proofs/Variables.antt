@@ -6,7 +6,7 @@ use Prim.Native.Nat.{ℕ, zero, suc, _+_, _<_}
 use native.Mathlib.Omega.{arith}
 use borrow.Author.Tests.{lt-ltb}
 use lib.Dec.{eqb, ltb}
-use Rattle.plan.specs.Tree.{Exp, constant, variable, binary, Own, empty, send, receive, set as setting, raise, leave, choose, repeat, sequence, flow, pick, scope, arm, kind, isScope, numbersOf, undoPart, isPick, Act, act, Acts, none, more, Plan, size, sizes}
+use Rattle.plan.specs.Tree.{Exp, constant, variable, binary, heldBy, Own, empty, send, receive, set as setting, raise, leave, choose, repeat, sequence, flow, pick, scope, arm, kind, isScope, numbersOf, undoPart, isPick, Act, act, Acts, none, more, Plan, size, sizes}
 use Rattle.order.specs.declared.Closing.{Closing}
 use Rattle.order.specs.declared.Order.{Order}
 use Rattle.order.specs.declared.Way.{Way}
@@ -14,11 +14,11 @@ use Rattle.order.specs.declared.Way.the-variants.{Running as running, Over as o
 use Rattle.order.specs.declared.End.{End}
 use Rattle.order.specs.declared.End.the-variants.{None, Well, Handled, Failed, Left}
 use Rattle.order.specs.Event.{Event, faulted}
-use Rattle.order.specs.Expression.{unboundVariable, conflictingReceive, Value, fault, value, evaluate, isTrue}
+use Rattle.order.specs.Expression.{unboundVariable, noSuchPartner, conflictingReceive, Value, fault, value, evaluate, isTrue}
 use Rattle.order.specs.State.{idle, active, inside, done, faulty, undoing, handling, halted, withdrawing, Name, root, inner, withMarks, binding, closings, remembering, markAt, marked, markOf, marking, stateOf, choiceOf, going, markWith, causing, noOrder}
 use Rattle.order.specs.Begin.{Begun, begin, beginAfter, beginPart, partAt, cleared, quiet}
 use Rattle.order.specs.Scope.{Outcome, Scope, Stopped, runs, after, begunIn, scopeAt, choiceFor, chosenPart, chosenAt, rootOf, rememberedFor, forgetting, adds, closing, innerRuns, whereOver, startUndo, undo, ends, handle, undoes, turns, isOpen, untouched, withdraws, stop, stopAll, stopFirst, faults, breaks, looksAgain, bodyOver, bodyRaised, undoOver, undoRaised, fromBody, partOver, partRaised, fromFault, goesThrough, fromUndo}
-use Rattle.order.specs.Acting.{finishes, raises, orRaises, enters, again, repeats, allBound, itself, isPart, arms, goesOn, joins, inScope, combines, stepIn, stepAmong, stepRoot, endOf, Moved, movedTo, Actor, itsOwn, inPlace, replaces, performs, acted}
+use Rattle.order.specs.Acting.{finishes, raises, orRaises, enters, again, repeats, allBound, reaches, itself, isPart, arms, goesOn, joins, inScope, combines, stepIn, stepAmong, stepRoot, endOf, Moved, movedTo, Actor, itsOwn, inPlace, replaces, performs, acted}
 use Rattle.order.specs.Awaited.{Doing, noStep, sends, takes, moves, cuts, closes, doingOf, Ready, readyOf}
 use Rattle.order.specs.Judging.{isSecond, Verdict, clear, clash, clashAfter, conflict, following, upon, judged, spare, settled, stepOrder}
 use Rattle.machine.specs.Calls.{doingAt}
@@ -427,7 +427,9 @@ alike-cond o false x y f g = g
 alike-itself : (own : Own) (l : Acts) (c k : ℕ) (o : Order) → Alike (setBy own o) (itself own l c k o .order)
 unfolding itself setBy closing forgetting
 alike-itself empty l c k o = alike o
-alike-itself (send p q vs) l c k o = alike-cond o (allBound o vs) (finishes k o) (raises unboundVariable k o) (as-marks _ (alike o)) (as-marks _ (alike o))
+alike-itself (send to q vs) l c k o =
+    alike-cond o (allBound o (heldBy to ++ vs)) (cond (reaches o to) (finishes k o) (raises noSuchPartner k o)) (raises unboundVariable k o)
+    (alike-cond o (reaches o to) (finishes k o) (raises noSuchPartner k o) (as-marks _ (alike o)) (as-marks _ (alike o))) (as-marks _ (alike o))
 alike-itself (receive p q vs) l c k o = as-marks _ (alike o)
 alike-itself (setting v e) l c k o = go (evaluate e o)
   where

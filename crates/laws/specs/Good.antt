@@ -6,7 +6,7 @@ use mathlib.Core.List.{List}
 use mathlib.Core.Path.{_≡_}
 use lib.Dec.{leb}
 use lib.ListN.{getD}
-use Rattle.plan.specs.Tree.{Plan, size}
+use Rattle.plan.specs.Tree.{partnerFrom, Plan, size}
 use Rattle.order.specs.declared.Order.{Order}
 use Rattle.order.specs.Acting.{startedOrder}
 use Rattle.order.specs.Lists.{every, empties}
@@ -20,8 +20,8 @@ use Rattle.machine.specs.Offer.{sendHeld, closeHeld}
 -- message is there
 unfoldable pub Allowed : Doing → (wait : ℕ) → Order → (place : ℕ) → Type 0
 Allowed noStep wait o j = Unit
-Allowed (sends partner operation vs) wait o j = sendHeld wait o vs ≡ false
-Allowed (takes partner operation vs) wait o j = j < wait
+Allowed (sends to operation vs) wait o j = sendHeld wait o to vs ≡ false
+Allowed (takes from operation vs) wait o j = j < wait
 Allowed moves wait o j = Unit
 Allowed cuts wait o j = Unit
 Allowed (closes undo s) wait o j = closeHeld o undo s ≡ false
@@ -30,9 +30,9 @@ Allowed (closes undo s) wait o j = closeHeld o undo s ≡ false
 -- takes it with the fewest unchecked places of all open receives that it fits; and it starts an order only where it fits none
 unfoldable pub Heeds : Doing → Plan → List Live → (starts : Bool) → Order → Message → Type 0
 Heeds noStep p live starts o m = Unit
-Heeds (sends partner operation vs) p live starts o m = Unit
-Heeds (takes partner operation vs) p live starts o m =
-    (fits p o partner operation vs m ≡ true)
+Heeds (sends to operation vs) p live starts o m = Unit
+Heeds (takes from operation vs) p live starts o m =
+    (fits p o (partnerFrom from) operation vs m ≡ true)
     × (cond starts (empties (fittings p live m)) (every (leb (unchecked p o vs)) (fittings p live m)) ≡ true)
 Heeds moves p live starts o m = Unit
 Heeds cuts p live starts o m = Unit

@@ -8,16 +8,16 @@ use lib.Dec.{eqb}
 use lib.ListN.{length, getD, drop}
 use Rattle.plan.specs.Found.{found, among}
 use Rattle.plan.specs.Read.{readPlan}
-use Rattle.plan.specs.Tree.{Exp, constant, variable, binary, Own, empty, send, receive, set as setting, raise, leave, choose, repeat, sequence, flow, pick, scope, arm, Act, act, Plan}
+use Rattle.plan.specs.Tree.{Exp, constant, variable, binary, From, storedBy, Own, empty, send, receive, set as setting, raise, leave, choose, repeat, sequence, flow, pick, scope, arm, Act, act, Plan}
 use Rattle.order.specs.declared.Order.{Order}
 use Rattle.order.specs.declared.End.{End}
 use Rattle.order.specs.declared.End.the-variants.{None, Well, Handled, Failed, Left}
 use Rattle.order.specs.Expression.{unboundVariable, Value, fault, value, both, evaluate}
 use Rattle.order.specs.State.{isLive, isBound, valueOf, binding, noOrder}
-use Rattle.order.specs.Taking.{actAt, bindAll}
+use Rattle.order.specs.Taking.{actAt, bindAll, storing}
 use Rattle.machine.specs.declared.State.{State}
 use Rattle.machine.specs.declared.Tally.{Tally}
-use Rattle.machine.specs.Calls.{loaded, post, collect, dropAt, chosen, choosing, doingAt, Stepped, step, Call, posting, collecting, dropping, stepping}
+use Rattle.machine.specs.Calls.{loaded, post, collect, dropAt, chosen, choosing, doingAt, gives, Stepped, step, Call, posting, collecting, dropping, stepping}
 use Rattle.machine.specs.Fit.{takes}
 use Rattle.machine.specs.Offer.{Offer, offersOf}
 use Rattle.machine.specs.Planned.{Planned}
@@ -63,11 +63,11 @@ abbrev pub setGives : (variable : ℕ) → Value → List Given → List Given
 setGives v (fault x) l = l
 setGives v (value n) l = record { variable = v; value = n } ∷ l
 
--- what the step of an activity or arm gives: a receive and an arm give what their message has, a set its value, any other nothing
+-- what the step of an activity or arm gives: a receive and an arm give what their message has (its values, and behind these its reply partner), a set its value, any other nothing
 unfoldable pub ownGives : Own → (values : List ℕ) → List Given → List Given
 ownGives empty xs l = l
 ownGives (send p q vs) xs l = l
-ownGives (receive p q vs) xs l = takeGives vs xs l
+ownGives (receive f q vs) xs l = takeGives (storedBy f) (drop 4 xs) (takeGives vs xs l)
 ownGives (setting v e) xs l = setGives v (worth e l) l
 ownGives (raise n) xs l = l
 ownGives leave xs l = l
@@ -112,7 +112,7 @@ isTakenIn i r = eqb (r .answer .refusal) 0 && eqb (r .answer .slot) i
 unfoldable pub toldAfter : Plan → (slot : ℕ) → State → Stepped → Told → Told
 toldAfter p i s r q =
     cond (isTakenIn i r)
-    (unlessEnded (r .answer .end) (ownGives (ownOf (actAt p (r .answer .activity))) (getD (s .messages) (r .answer .place) noMessage .values) (givenIn q)))
+    (unlessEnded (r .answer .end) (ownGives (ownOf (actAt p (r .answer .activity))) (gives (getD (s .messages) (r .answer .place) noMessage)) (givenIn q)))
     q
 
 -- a slot after these calls, from a state in which it is told so
@@ -159,7 +159,7 @@ TakenAsKnown =
     (bytes : List ℕ) (p : Plan) (next : ℕ) → readPlan bytes ≡ found p next → (calls : List Call) (t : Tally) (c : ℕ)
     → let s = after calls (loaded bytes) t .0 in let a = step c s (after calls (loaded bytes) t .1) .answer in
     a .refusal ≡ 0 → (l : List Given) → toldFrom bytes p calls (a .slot) t ≡ here l
-    → (partner operation : ℕ) (vs : List ℕ) → doingAt p (a .activity) ≡ takes partner operation vs
+    → (from : From) (operation : ℕ) (vs : List ℕ) → doingAt p (a .activity) ≡ takes from operation vs
     → (i : ℕ) → i < length vs → among (getD vs i 0) (p .correlation) ≡ true → (x : ℕ) → lastOf (getD vs i 0) l ≡ known x
     → getD (getD (s .messages) (a .place) noMessage .values) i 0 ≡ x
 
@@ -173,7 +173,7 @@ setTo v (value n) o = binding v n o
 unfoldable pub variablesAfter : Own → (values : List ℕ) → Order → Order
 variablesAfter empty xs o = o
 variablesAfter (send p q vs) xs o = o
-variablesAfter (receive p q vs) xs o = bindAll vs xs o
+variablesAfter (receive f q vs) xs o = storing f (getD xs 4 0) (bindAll vs xs o)
 variablesAfter (setting v e) xs o = setTo v (evaluate e o) o
 variablesAfter (raise n) xs o = o
 variablesAfter leave xs o = o
@@ -197,5 +197,5 @@ unfoldable pub VariablesMove : Type 0
 VariablesMove =
     (p : Plan) (next : ℕ) (s : State) (t : Tally) (c : ℕ) (x : Offer) → Planned p next s → length (s .orders) ≡ 16 → choosing (offersOf p s) c ≡ chosen x
     → Leaves (step c s t .answer .end)
-    (variablesAfter (ownOf (actAt p (x .activity))) (getD (s .messages) (x .place) noMessage .values) (actor p (s .orders) (x .slot)))
+    (variablesAfter (ownOf (actAt p (x .activity))) (gives (getD (s .messages) (x .place) noMessage)) (actor p (s .orders) (x .slot)))
     (getD (step c s t .state .orders) (x .slot) noOrder)

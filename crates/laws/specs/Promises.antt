@@ -8,15 +8,15 @@ use lib.Dec.{leb}
 use lib.ListN.{length, getD, take, drop}
 use Rattle.plan.specs.Found.{found, among}
 use Rattle.plan.specs.Read.{readPlan}
-use Rattle.plan.specs.Tree.{Plan}
+use Rattle.plan.specs.Tree.{From, Plan}
 use Rattle.order.specs.declared.Order.{Order}
-use Rattle.order.specs.Acting.{allBound}
+use Rattle.order.specs.Acting.{maySend}
 use Rattle.order.specs.Lists.{stored}
 use Rattle.order.specs.State.{isLive, isBound, valueOf, noOrder}
 use Rattle.machine.specs.declared.Message.{Message}
 use Rattle.machine.specs.declared.State.{State}
 use Rattle.machine.specs.declared.Tally.{Tally}
-use Rattle.machine.specs.Calls.{load, post, collect, dropAt, choosing, chosen, answering, doingAt, valuesOf, Stepped, step, run}
+use Rattle.machine.specs.Calls.{load, post, collect, dropAt, choosing, chosen, answering, doingAt, sentBy, Stepped, step, run}
 use Rattle.machine.specs.Fit.{Doing, noStep, sends, takes, moves, cuts, closes, liveFrom, fits, unchecked, fittings}
 use Rattle.machine.specs.Limits.{planIn}
 use Rattle.machine.specs.Offer.{Offer, offering, offersOf}
@@ -41,7 +41,7 @@ TakenIsOffered =
 unfoldable pub TakenInFull : Type 0
 TakenInFull =
     (p : Plan) (s : State) (c : ℕ) (x : Offer) → choosing (offersOf p s) c ≡ chosen x → isLive (getD (s .orders) (x .slot) noOrder) ≡ true
-    → (partner operation : ℕ) (vs : List ℕ) → doingAt p (x .activity) ≡ takes partner operation vs
+    → (from : From) (operation : ℕ) (vs : List ℕ) → doingAt p (x .activity) ≡ takes from operation vs
     → (i : ℕ) → i < length vs → among (getD vs i 0) (p .correlation) ≡ true → isBound (getD (s .orders) (x .slot) noOrder) (getD vs i 0) ≡ true
     → getD (getD (s .messages) (x .place) noMessage .values) i 0 ≡ valueOf (getD (s .orders) (x .slot) noOrder) (getD vs i 0)
 
@@ -50,7 +50,7 @@ TakenInFull =
 unfoldable pub TakenByFewest : Type 0
 TakenByFewest =
     (p : Plan) (s : State) (c : ℕ) (x : Offer) → choosing (offersOf p s) c ≡ chosen x → isLive (getD (s .orders) (x .slot) noOrder) ≡ true
-    → (partner operation : ℕ) (vs : List ℕ) → doingAt p (x .activity) ≡ takes partner operation vs
+    → (from : From) (operation : ℕ) (vs : List ℕ) → doingAt p (x .activity) ≡ takes from operation vs
     → (i : ℕ) → i < length (fittings p (liveFrom p 0 (s .orders)) (getD (s .messages) (x .place) noMessage))
     → leb (unchecked p (getD (s .orders) (x .slot) noOrder) vs) (getD (fittings p (liveFrom p 0 (s .orders)) (getD (s .messages) (x .place) noMessage)) i 0) ≡ true
 
@@ -58,7 +58,7 @@ TakenByFewest =
 unfoldable pub StartsWhereNoneFits : Type 0
 StartsWhereNoneFits =
     (p : Plan) (s : State) (c : ℕ) (x : Offer) → choosing (offersOf p s) c ≡ chosen x → isLive (getD (s .orders) (x .slot) noOrder) ≡ false
-    → (partner operation : ℕ) (vs : List ℕ) → doingAt p (x .activity) ≡ takes partner operation vs
+    → (from : From) (operation : ℕ) (vs : List ℕ) → doingAt p (x .activity) ≡ takes from operation vs
     → fittings p (liveFrom p 0 (s .orders)) (getD (s .messages) (x .place) noMessage) ≡ []
 
 -- REFUSED IS UNCHANGED. Demand 1: "each refusal has a number, a fixed result and a fixed state afterwards". "All other refusals give back state, messages
@@ -103,9 +103,8 @@ Never17 = (p : Plan) (next : ℕ) (s : State) → Reached p next s → planIn s 
 -- taken message has left, a send whose variables are bound has added one behind the others, and nothing else changes the messages.
 unfoldable pub lettersAfter : Doing → (place : ℕ) → Order → List Message → List Message
 lettersAfter noStep j o l = l
-lettersAfter (sends partner operation vs) j o l =
-    cond (allBound o vs) (l ++ (record { partner = partner; operation = operation; count = length vs; values = stored 4 (valuesOf o vs) } ∷ [])) l
-lettersAfter (takes partner operation vs) j o l = take j l ++ drop (j + 1) l
+lettersAfter (sends to operation vs) j o l = cond (maySend o to vs) (l ++ (sentBy o to operation vs ∷ [])) l
+lettersAfter (takes from operation vs) j o l = take j l ++ drop (j + 1) l
 lettersAfter moves j o l = l
 lettersAfter cuts j o l = l
 lettersAfter (closes undo x) j o l = l

@@ -76,7 +76,7 @@ holds (planned bytes told) = alike (ofPlan (readPlan bytes)) told
 holds (ran x) = answer (x .calls) (x .answers) (x .waiting) (x .tally) [] (loaded (x .bytes)) noTally
 
 abbrev pub message : (partner operation : ℕ) → List ℕ → Call
-message p o l = posting (record { partner = p; operation = o; count = length l; values = stored 4 l })
+message p o l = posting (record { partner = p; operation = o; count = length l; values = stored 4 l; reply = 0 })
 
 -- "Plan A is 01 02 01 00 02 03 05 02 00 01 00."
 abbrev pub planA : List ℕ

@@ -117,6 +117,23 @@ fn put_another(
     used
 }
 
+// Operation and variables of row n, after whom the message is for or from.
+fn put_about(
+    out: &mut [u8; 65536],
+    used: usize,
+    table: &Table,
+    correlation: &[u8; 16],
+    n: usize,
+) -> usize {
+    let between = put(out, used, b", operation ");
+    let operation = put_number(out, between, entry(table, n, OPERATION));
+    let colon = put(out, operation, b": ");
+    let first = put_member(out, colon, correlation, entry(table, n, VARIABLES));
+    let second = put_another(out, first, table, correlation, n, 1);
+    let third = put_another(out, second, table, correlation, n, 2);
+    put_another(out, third, table, correlation, n, 3)
+}
+
 // Partner, operation and variables of row n, after the words that say what is done.
 fn put_exchange(
     out: &mut [u8; 65536],
@@ -128,13 +145,39 @@ fn put_exchange(
 ) -> usize {
     let said = put(out, used, words);
     let partner = put_number(out, said, entry(table, n, PARTNER));
-    let between = put(out, partner, b", operation ");
-    let operation = put_number(out, between, entry(table, n, OPERATION));
-    let colon = put(out, operation, b": ");
-    let first = put_member(out, colon, correlation, entry(table, n, VARIABLES));
-    let second = put_another(out, first, table, correlation, n, 1);
-    let third = put_another(out, second, table, correlation, n, 2);
-    put_another(out, third, table, correlation, n, 3)
+    put_about(out, partner, table, correlation, n)
+}
+
+// A send to the partner that a variable holds, and whom it asks to reply to: nothing is said of 0, which every other send carries.
+fn put_held_send(
+    out: &mut [u8; 65536],
+    used: usize,
+    table: &Table,
+    correlation: &[u8; 16],
+    n: usize,
+) -> usize {
+    let said = put(out, used, b"send to the partner in ");
+    let held = put_member(out, said, correlation, entry(table, n, VARIABLE));
+    let about = put_about(out, held, table, correlation, n);
+    let reply = entry(table, n, PARTNER);
+    if reply == 0 {
+        return about;
+    }
+    let with = put(out, about, b" with reply to partner ");
+    put_number(out, with, reply)
+}
+
+// A receive that stores whom to reply to.
+fn put_asking_receive(
+    out: &mut [u8; 65536],
+    used: usize,
+    table: &Table,
+    correlation: &[u8; 16],
+    n: usize,
+) -> usize {
+    let received = put_exchange(out, used, b"receive from partner ", table, correlation, n);
+    let with = put(out, received, b" with reply to into ");
+    put_variable(out, with, entry(table, n, VARIABLE))
 }
 
 fn put_operator(out: &mut [u8; 65536], used: usize, form: u32) -> usize {
@@ -243,7 +286,9 @@ fn put_activity(
     match kind {
         kind::EMPTY => put(out, used, b"empty"),
         kind::SEND => put_exchange(out, used, b"send to partner ", table, correlation, n),
+        kind::HELD_SEND => put_held_send(out, used, table, correlation, n),
         kind::RECEIVE => put_exchange(out, used, b"receive from partner ", table, correlation, n),
+        kind::ASKING_RECEIVE => put_asking_receive(out, used, table, correlation, n),
         kind::SET => put_set(out, used, table, n),
         kind::RAISE => put(out, used, b"raise"),
         kind::NUMBERED_RAISE => put_raise(out, used, table, n),

@@ -56,9 +56,9 @@ lesser-is x c h =
     ]
 
 -- a row that is asked, and a message
-pub row-asks : {t picks marks known bound parts : List ℕ} {kept slot k : ℕ} {cutting : Bool} {letters : List ℕ} {waiting : ℕ} {least : List ℕ} {c : ℕ} {s r : Sight}
-    → Unseen c s → Rows t k (Opening t picks marks known bound parts kept letters waiting least) (offerLine cutting waiting slot) s r
-    → Asks (RowOf t picks marks known bound parts kept slot k cutting letters waiting least) c r
+pub row-asks : {t picks marks known bound values parts : List ℕ} {kept slot k : ℕ} {cutting : Bool} {letters : List ℕ} {waiting : ℕ} {least : List ℕ} {c : ℕ} {s r : Sight}
+    → Unseen c s → Rows t k (Opening t picks marks known bound values parts kept letters waiting least) (offerLine cutting waiting slot) s r
+    → Asks (RowOf t picks marks known bound values parts kept slot k cutting letters waiting least) c r
 unfolding actLine
 row-asks {slot = slot} {cutting = cutting} {waiting = waiting} {c = c} u w = record {
   is = λ a x.
@@ -76,9 +76,9 @@ letter-asks {c = c} few u w = record {
 }
 
 -- what a row and a message add
-pub row-lists : {t picks marks known bound parts : List ℕ} {kept slot k : ℕ} {cutting : Bool} {letters : List ℕ} {waiting : ℕ} {least : List ℕ} {w r : Listing}
-    → Lists (RowOf t picks marks known bound parts kept slot k cutting letters waiting least) w r
-    → Rows t k (Opening t picks marks known bound parts kept letters waiting least) (actLine listing cutting waiting slot) w r
+pub row-lists : {t picks marks known bound values parts : List ℕ} {kept slot k : ℕ} {cutting : Bool} {letters : List ℕ} {waiting : ℕ} {least : List ℕ} {w r : Listing}
+    → Lists (RowOf t picks marks known bound values parts kept slot k cutting letters waiting least) w r
+    → Rows t k (Opening t picks marks known bound values parts kept letters waiting least) (actLine listing cutting waiting slot) w r
 unfolding actLine
 row-lists x = record {
   is = λ o p l y g z. x .is _ (record { order = o; plan = p; told = l; line = y; given = g; stands = z; is = refl });
@@ -164,7 +164,7 @@ module _ {P : Offers → Type 0} {start : Listing} {c skip at : ℕ} {out : List
 -- `list_slot`
 pub list-live : {t picks flags known parts : List ℕ} {n : ℕ} (i : ℕ) {o : Order} {letters : List ℕ} {wait : ℕ} {least : List ℕ} {s r : Listing} {cutting : Bool} → (o .root ≡ 0 → ⊥)
     → KnowsOrder flags o known → Remembers o parts → Wholes t n (Marked (o .marks)) cutLine false cutting
-    → Wholes t n (Opening t picks (o .marks) known (o .bound) parts (o .kept) letters wait least) (actLine listing cutting wait i) s r
+    → Wholes t n (Opening t picks (o .marks) known (o .bound) (o .values) parts (o .kept) letters wait least) (actLine listing cutting wait i) s r
     → Slots t n (Informed t picks flags letters wait least) (actLive listing wait) i o s r
 list-live i h k m v w = acts-live listing-acts i h k m v w
 

@@ -70,12 +70,12 @@ pub record Lists (P : Offers → Type 0) (w r : Listing) : Type 0 where
   pub is : (a : Offers) → P a → r ≡ listing a w
 
 -- what row k of an order has on offer, for any order that this is known of
-pub record RowOf (t picks marks known bound parts : List ℕ) (kept slot k : ℕ) (cutting : Bool) (letters : List ℕ) (waiting : ℕ) (least : List ℕ) (a : Offers) : Type 0 where
+pub record RowOf (t picks marks known bound values parts : List ℕ) (kept slot k : ℕ) (cutting : Bool) (letters : List ℕ) (waiting : ℕ) (least : List ℕ) (a : Offers) : Type 0 where
   pub order : Order
   pub plan : Plan
   pub told : List Letter
   pub line : Line
-  pub given : Opening t picks marks known bound parts kept letters waiting least order plan told
+  pub given : Opening t picks marks known bound values parts kept letters waiting least order plan told
   pub stands : Stands t (order .marks) k line
   pub is : a ≡ lineOffers cutting waiting slot order plan told line
 

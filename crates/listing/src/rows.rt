@@ -53,19 +53,20 @@ fn list_row(
     marks: &[u8; 256],
     known: &[u64; 16],
     bound: &[u8; 16],
+    values: &[u32; 16],
     parts: &[u8; 32],
     kept: usize,
     slot: usize,
     k: usize,
     cutting: bool,
-    letters: &[u32; 448],
+    letters: &[u32; 512],
     waiting: usize,
     least: &[usize; 64],
     first: u32,
     from: usize,
     out: &mut [u64],
 ) -> Window
-    ensures { λ r. ⌜ Lists (RowOf (now (table .entry)) (now (picks .entry)) (now (marks .entry)) (now (known .entry)) (now (bound .entry)) (now (parts .entry)) kept slot k cutting (now (letters .entry)) waiting (now (least .entry))) (holding first from (now (out .entry))) (holding (r .skip) (r .at) (now (out .exit))) ⌝ }
+    ensures { λ r. ⌜ Lists (RowOf (now (table .entry)) (now (picks .entry)) (now (marks .entry)) (now (known .entry)) (now (bound .entry)) (now (values .entry)) (now (parts .entry)) kept slot k cutting (now (letters .entry)) waiting (now (least .entry))) (holding first from (now (out .entry))) (holding (r .skip) (r .at) (now (out .exit))) ⌝ }
 {
     let mut skip = first;
     let mut c = first as usize;
@@ -77,6 +78,7 @@ fn list_row(
             marks,
             known,
             bound,
+            values,
             parts,
             kept,
             slot,
@@ -110,18 +112,19 @@ fn list_rows(
     marks: &[u8; 256],
     known: &[u64; 16],
     bound: &[u8; 16],
+    values: &[u32; 16],
     parts: &[u8; 32],
     kept: usize,
     slot: usize,
     activities: usize,
     cutting: bool,
-    letters: &[u32; 448],
+    letters: &[u32; 512],
     waiting: usize,
     least: &[usize; 64],
     w: Window,
     out: &mut [u64],
 ) -> Window
-    ensures { λ r. ⌜ Wholes (now (table .entry)) activities (Opening (now (table .entry)) (now (picks .entry)) (now (marks .entry)) (now (known .entry)) (now (bound .entry)) (now (parts .entry)) kept (now (letters .entry)) waiting (now (least .entry))) (actLine listing cutting waiting slot) (holding (w .skip) (w .at) (now (out .entry))) (holding (r .skip) (r .at) (now (out .exit))) ⌝ }
+    ensures { λ r. ⌜ Wholes (now (table .entry)) activities (Opening (now (table .entry)) (now (picks .entry)) (now (marks .entry)) (now (known .entry)) (now (bound .entry)) (now (values .entry)) (now (parts .entry)) kept (now (letters .entry)) waiting (now (least .entry))) (actLine listing cutting waiting slot) (holding (w .skip) (w .at) (now (out .entry))) (holding (r .skip) (r .at) (now (out .exit))) ⌝ }
 {
     let mut c = w;
     let mut k: usize = 0;
@@ -132,6 +135,7 @@ fn list_rows(
             marks,
             known,
             bound,
+            values,
             parts,
             kept,
             slot,
@@ -157,7 +161,7 @@ pub(crate) fn list_slot(
     order: Order,
     slot: usize,
     activities: usize,
-    letters: &[u32; 448],
+    letters: &[u32; 512],
     waiting: usize,
     least: &[usize; 64],
     w: Window,
@@ -170,6 +174,7 @@ pub(crate) fn list_slot(
     }
     let marks = order.marks;
     let bound = order.bound;
+    let values = order.values;
     let parts = parts_of(order);
     let known = known_of(flags, order);
     let cutting = cut_rows(table, &marks, activities);
@@ -179,6 +184,7 @@ pub(crate) fn list_slot(
         &marks,
         &known,
         &bound,
+        &values,
         &parts,
         order.kept,
         slot,

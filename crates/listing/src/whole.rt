@@ -20,7 +20,7 @@ fn list_in(
     picks: &[usize; 256],
     orders: [Order; 16],
     activities: usize,
-    letters: &[u32; 448],
+    letters: &[u32; 512],
     waiting: usize,
     first: u32,
     out: &mut [u64],

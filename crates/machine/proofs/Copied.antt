@@ -59,7 +59,7 @@ pub no-order-is : _≡_ {A = Order}
 unfolding noOrder
 no-order-is = refl
 
-pub no-message-is : _≡_ {A = Message} (record { partner = 0; operation = 0; count = 0; values = replicate 4 0 }) noMessage
+pub no-message-is : _≡_ {A = Message} (record { partner = 0; operation = 0; count = 0; values = replicate 4 0; reply = 0 }) noMessage
 unfolding noMessage
 no-message-is = refl
 
@@ -71,5 +71,5 @@ fresh-is s b o m = rw (b, o, m)
 
 -- `trim`
 pub trim-is : {l : List ℕ} (m : Message) → l ≡ stored 4 (take (m .count) (m .values))
-    → _≡_ {A = Message} (record { partner = m .partner; operation = m .operation; count = m .count; values = l }) (trimmed m)
+    → _≡_ {A = Message} (record { partner = m .partner; operation = m .operation; count = m .count; values = l; reply = m .reply }) (trimmed m)
 trim-is m e = rw e

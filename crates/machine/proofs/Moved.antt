@@ -110,14 +110,15 @@ pub left-is : (s : State) (k : ℕ) {l : List Message} → l ≡ take k (s .mess
 left-is s k e = rw e
 
 -- `post_by`
-pub post-count : (m : Message) {r : Bool} → r ≡ exchanged (m .partner) (m .operation) (m .count) → not r ≡ false → m .count ≤ 4
+pub post-count : (m : Message) {r : Bool} → r ≡ exchanged (m .partner) (m .operation) (m .count) (m .reply) → not r ≡ false → m .count ≤ 4
 unfolding exchanged
 post-count m {r} e t =
     both (ltb (m .partner) 64) _ (sym e ∙ not-false r t) (λ a b.
     both (ltb (m .operation) 64) _ b (λ c d.
-    both (leb 1 (m .count)) _ d (λ f g. leb-true _ _ g)))
+    both (leb 1 (m .count)) _ d (λ f g.
+    both (leb (m .count) 4) _ g (λ x y. leb-true _ _ x))))
 
-module _ (m : Message) (s : State) {r : Bool} (e : r ≡ exchanged (m .partner) (m .operation) (m .count)) where
+module _ (m : Message) (s : State) {r : Bool} (e : r ≡ exchanged (m .partner) (m .operation) (m .count) (m .reply)) where
   pub post-ruled-out : not r ≡ true → (p : Plan) → _≡_ {A = Posted} (record { refusal = 13; state = s }) (postBy p m s)
   unfolding postBy
   post-ruled-out q p = rw (sym e ∙ not-true r q)
@@ -166,7 +167,7 @@ module _ (t : List ℕ) (l : List Message) (n : ℕ) {i : ℕ} (a : Seeking t (t
       let m = a .long in
       let q : messageInLimits (getD (take n l) i d) ≡ true = every-at messageInLimits (take n l) i d e (omega arith) in
       let z : messageInLimits (getD l i d) ≡ true = ap messageInLimits (sym (getD-take n l i d h)) ∙ q in
-      both (exchanged (getD l i d .partner) (getD l i d .operation) (getD l i d .count)) _ z (λ a b.
+      both (exchanged (getD l i d .partner) (getD l i d .operation) (getD l i d .count) (getD l i d .reply)) _ z (λ a b.
       both (ltb (getD l i d .partner) 64) _ a (λ x y. ltb-true _ _ x))
 
   module _ (d : Message) {b : Bool} (v : every messageInLimits (take n l) ≡ true) (h : i < n) (e : b ≡ eqb (getD t (3328 + getD l i d .partner) 0) 1) where
@@ -210,7 +211,7 @@ same-there (x ∷ l) zero d e h = refl
 same-there (x ∷ l) (suc i) d e h = same-there l i d e (omega arith)
 
 pub letter-there : (l : List Message) (i : ℕ) → i < 64 → length l ≡ 64
-    → getD l i (record { partner = 0; operation = 0; count = 0; values = [] }) ≡ getD l i noMessage
+    → getD l i (record { partner = 0; operation = 0; count = 0; values = []; reply = 0 }) ≡ getD l i noMessage
 letter-there l i h e = same-there l i _ noMessage (omega arith)
 
 -- `handed`

@@ -15,7 +15,7 @@ use Rattle.plan.specs.Read.{readPlan, startForm}
 use Rattle.plan.specs.Spell.{spelling, operationCode, gapsOf, later, passing}
 use Rattle.plan.specs.Store.{store}
 use Rattle.plan.specs.Table.{row, rowOf, noted, putRow, nodesOf, putNode, putNodes, putOwnNodes, putOwn, putClose, put, putAll, blankTable, bodyPlace, tableOver, tableOf}
-use Rattle.plan.specs.Tree.{Exp, constant, variable, binary, Own, empty, send, receive, set, raise, leave, choose, repeat, sequence, flow, pick, scope, arm, kind, numbersOf, Act, act, Acts, none, more, Plan, size, sizes}
+use Rattle.plan.specs.Tree.{Exp, constant, variable, binary, toPartner, toHeld, fromPartner, fromAsking, Own, empty, send, receive, set, raise, leave, choose, repeat, sequence, flow, pick, scope, arm, kind, numbersOf, Act, act, Acts, none, more, Plan, size, sizes}
 use Rattle.plan.specs.Within.{from1, ascending, actWithin, planWithin}
 use Rattle.plan.proofs.Accepts.{both, among-append}
 use Rattle.plan.proofs.Kept.{But, store-but}
@@ -93,13 +93,19 @@ module _ (q : ℕ) (small : q < 64) where
       go (no e) = rw (ne-eqb q p e) (getD-set-other t (3328 + p + 0) (3328 + q) 1 0 (λ z. e (omega arith)))
 
   module _ (l : Acts) (at n m : ℕ) (t : List ℕ) (long : length t ≡ 11584) (h : n < 256) where
+    -- the row of one that takes messages of partner p, and the flag of that
+    hears : (p : ℕ) (r : List ℕ) → length r ≤ 13 → Flag q (p ∷ []) t (store (1 ∷ []) (3328 + p) 0 (store r (n * 13) 0 t))
+    hears p r w =
+        let a = row-flag r n t w h in
+        flag-then a (partner-flag p _ (a .long ∙ long))
+
     own-flag : (own : Own) → Flag q (partnerOf (doingOf own l 0)) t (putOwn own at n m t)
     unfolding putOwn putRow rowOf kind noted putOwnNodes partnerOf doingOf
     own-flag empty = row-flag _ n t (omega arith) h
-    own-flag (send p o vs) = row-flag _ n t (omega arith) h
-    own-flag (receive p o vs) =
-        let a = row-flag (row 2 p o vs 0 0 at) n t (omega arith) h in
-        flag-then a (partner-flag p _ (a .long ∙ long))
+    own-flag (send (toPartner p) o vs) = row-flag _ n t (omega arith) h
+    own-flag (send (toHeld v r) o vs) = row-flag _ n t (omega arith) h
+    own-flag (receive (fromPartner p) o vs) = hears p (row 2 p o vs 0 0 at) (omega arith)
+    own-flag (receive (fromAsking p v) o vs) = hears p (row 18 p o vs v 0 at) (omega arith)
     own-flag (set v x) = flag-then (nodes-flag x m t) (row-flag _ n _ (omega arith) h)
     own-flag (raise zero) = row-flag _ n t (omega arith) h
     own-flag (raise (suc number)) = row-flag _ n t (omega arith) h
@@ -112,9 +118,7 @@ module _ (q : ℕ) (small : q < 64) where
     own-flag (scope [] true) = row-flag _ n t (omega arith) h
     own-flag (scope [] false) = row-flag _ n t (omega arith) h
     own-flag (scope (x ∷ ns) v) = row-flag _ n t (omega arith) h
-    own-flag (arm p o vs) =
-        let a = row-flag (row 255 p o vs 0 0 at) n t (omega arith) h in
-        flag-then a (partner-flag p _ (a .long ∙ long))
+    own-flag (arm p o vs) = hears p (row 255 p o vs 0 0 at) (omega arith)
 
   mutual
     unfolding put size partnersIn

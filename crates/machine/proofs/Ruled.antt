@@ -21,24 +21,29 @@ use Rattle.machine.specs.Planned.{Bare}
 use Rattle.machine.specs.Limits.{exchanged, messageInLimits, rootInLimits, markInLimits, orderInLimits, inLimits}
 
 -- `exchange_ruled`
-module _ (p o n : ℕ) where
-  pub far-partner : 64 ≤ p → false ≡ exchanged p o n
+module _ (p o n r : ℕ) where
+  pub far-partner : 64 ≤ p → false ≡ exchanged p o n r
   unfolding exchanged
   far-partner h = rw (le-ltb _ _ h)
 
   module _ (a : p < 64) where
-    pub far-operation : 64 ≤ o → false ≡ exchanged p o n
+    pub far-operation : 64 ≤ o → false ≡ exchanged p o n r
     unfolding exchanged
     far-operation h = rw (lt-ltb _ _ a, le-ltb _ _ h)
 
     module _ (b : o < 64) where
-      pub no-count : n < 1 → false ≡ exchanged p o n
+      pub no-count : n < 1 → false ≡ exchanged p o n r
       unfolding exchanged
       no-count h = rw (lt-ltb _ _ a, lt-ltb _ _ b, lt-leb _ _ h)
 
-      pub some-count : 1 ≤ n → leb n 4 ≡ exchanged p o n
-      unfolding exchanged
-      some-count h = rw (lt-ltb _ _ a, lt-ltb _ _ b, le-leb _ _ h)
+      module _ (c : 1 ≤ n) where
+        pub many-count : 4 < n → false ≡ exchanged p o n r
+        unfolding exchanged
+        many-count h = rw (lt-ltb _ _ a, lt-ltb _ _ b, le-leb _ _ c, lt-leb _ _ h)
+
+        pub some-count : n ≤ 4 → ltb r 64 ≡ exchanged p o n r
+        unfolding exchanged
+        some-count h = rw (lt-ltb _ _ a, lt-ltb _ _ b, le-leb _ _ c, le-leb _ _ h)
 
 -- A loop that tests each element of a list, from the place i on: what is left to decide is whether the test holds of each that is left.
 pub record Tested {A : Type 0} (f : A → Bool) (l : List A) (whole : Bool) (n i : ℕ) : Type 0 where
@@ -193,7 +198,7 @@ module _ {l : List ℕ} {i largest : ℕ} (a : Ruling l i largest) where
       alone false = refl
 
 -- `message_ruled`
-module _ (m : Message) {r : Bool} (e : r ≡ exchanged (m .partner) (m .operation) (m .count)) where
+module _ (m : Message) {r : Bool} (e : r ≡ exchanged (m .partner) (m .operation) (m .count) (m .reply)) where
   pub message-decided : {b : Bool} → r ≡ true → b ≡ every (eqb 0) (drop (m .count) (m .values)) → b ≡ messageInLimits m
   unfolding messageInLimits
   message-decided t q = rw (sym e ∙ t) q
@@ -203,13 +208,13 @@ module _ (m : Message) {r : Bool} (e : r ≡ exchanged (m .partner) (m .operatio
   message-not t = rw (sym e ∙ t)
 
 -- `fault_ruled`
-pub fault-own : (n : ℕ) → n ≤ 4 → true ≡ isFaultNumber n
+pub fault-own : (n : ℕ) → n ≤ 5 → true ≡ isFaultNumber n
 unfolding isFaultNumber
-fault-own n h = rw (le-leb n 4 h)
+fault-own n h = rw (le-leb n 5 h)
 
-pub fault-given : (n : ℕ) → n < 256 → 4 < n → leb 16 n ≡ isFaultNumber n
+pub fault-given : (n : ℕ) → n < 256 → 5 < n → leb 16 n ≡ isFaultNumber n
 unfolding isFaultNumber
-fault-given n l h = rw (lt-leb n 4 h, le-leb n 255 (omega arith)) (sym (alone (leb 16 n)))
+fault-given n l h = rw (lt-leb n 5 h, le-leb n 255 (omega arith)) (sym (alone (leb 16 n)))
   where
     alone : (x : Bool) → (x && true) ≡ x
     alone true = refl

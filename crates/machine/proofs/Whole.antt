@@ -27,6 +27,7 @@ pub record WholeMessage (m : Message) : Type 0 where
   pub count : Word (m .count)
   pub values : Each Word (m .values)
   pub values-long : length (m .values) ≡ 4
+  pub reply : Word (m .reply)
 
 pub record WholeState (s : State) : Type 0 where
   pub plan-long : length (s .plan) ≡ 4096
@@ -46,7 +47,7 @@ pub message-whole : (m : Message) (vs : List Val) → Is (row message.the-type) 
 message-whole m vs p =
     let a = p .1 .1 in
     let v = words-of 4 (m .values) _ (a .1 .1 .1 .0) in
-    record { partner = a .0 .1; operation = a .1 .0 .1; count = a .1 .1 .0 .1; values = v .0; values-long = v .1 }
+    record { partner = a .0 .1; operation = a .1 .0 .1; count = a .1 .1 .0 .1; values = v .0; values-long = v .1; reply = a .1 .1 .1 .1 .0 .1 }
 
 pub state-whole : (s : State) (vs : List Val) → Is (row state.the-type) s vs → WholeState s
 state-whole s vs p =

@@ -6,7 +6,7 @@ use lib.ListN.{length, getD, take, drop}
 use lib.Dec.{leb, ltb, eqb}
 use Rattle.plan.specs.Found.{Found, refused, found, among}
 use Rattle.plan.specs.Read.{readPlan}
-use Rattle.plan.specs.Tree.{Act, act, Acts, none, more, Plan, size}
+use Rattle.plan.specs.Tree.{To, replyOf, partnerFrom, Act, act, Acts, none, more, Plan, size}
 use Rattle.machine.specs.declared.Message.{Message}
 use Rattle.order.specs.declared.Order.{Order}
 use Rattle.machine.specs.declared.State.{State}
@@ -18,13 +18,13 @@ use Rattle.machine.specs.declared.Tally.{Tally}
 use Rattle.order.specs.declared.End.{End}
 use Rattle.order.specs.declared.End.the-variants.{None, Well, Handled, Failed, Left}
 use Rattle.order.specs.Lists.{stored, empties}
-use Rattle.order.specs.Taking.{bindAll}
+use Rattle.order.specs.Taking.{bindAll, storing}
 use Rattle.order.specs.State.{isLive, noOrder, binding, valueOf}
 use Rattle.machine.specs.State.{noMessage, fresh, unplanned, letters, withOrder, adding, removing}
 use Rattle.machine.specs.Limits.{exchanged, planIn, by}
 use Rattle.order.specs.Event.{Event, started}
 use Rattle.order.specs.Begin.{Begun}
-use Rattle.order.specs.Acting.{allBound, Moved, begunOrder, startedOrder}
+use Rattle.order.specs.Acting.{partnerTo, maySend, Moved, begunOrder, startedOrder}
 use Rattle.order.specs.Judging.{stepOrder}
 use Rattle.machine.specs.Fit.{Doing, noStep, sends, takes, moves, cuts, closes, doingOf}
 use Rattle.machine.specs.Offer.{Offer, Offers, offersOf}
@@ -43,12 +43,12 @@ loaded s = load s .state
 -- Post: the refusal or 0, and the state. "Places beyond its count hold 0; post makes them so."
 abbrev pub trimmed : Message → Message
 trimmed m =
-    record { partner = m .partner; operation = m .operation; count = m .count; values = stored 4 (take (m .count) (m .values)) }
+    record { partner = m .partner; operation = m .operation; count = m .count; values = stored 4 (take (m .count) (m .values)); reply = m .reply }
 
--- 13: "partner, operation or count outside its rule"; 14: "64 messages wait"
+-- 13: "partner, operation or count outside its rule", and "post with a reply partner above 63"; 14: "64 messages wait"
 unfoldable pub postBy : Plan → Message → State → Posted
 postBy p m s =
-    cond (not (exchanged (m .partner) (m .operation) (m .count))) (record { refusal = 13; state = s })
+    cond (not (exchanged (m .partner) (m .operation) (m .count) (m .reply))) (record { refusal = 13; state = s })
     (cond (leb 64 (s .waiting)) (record { refusal = 14; state = s })
     (record { refusal = 0; state = adding (trimmed m) s }))
 
@@ -58,8 +58,8 @@ post m s = by (record { refusal = 17; state = s }) (λ p. postBy p m s) (planIn 
 -- the partners that a plan receives on, in the order of the file
 unfoldable pub partnerOf : Doing → List ℕ
 partnerOf noStep = []
-partnerOf (sends partner operation vs) = []
-partnerOf (takes partner operation vs) = partner ∷ []
+partnerOf (sends to operation vs) = []
+partnerOf (takes from operation vs) = partnerFrom from ∷ []
 partnerOf moves = []
 partnerOf cuts = []
 partnerOf (closes undo s) = []
@@ -180,22 +180,28 @@ unfoldable pub valuesOf : Order → List ℕ → List ℕ
 valuesOf o [] = []
 valuesOf o (v ∷ vs) = valueOf o v ∷ valuesOf o vs
 
+-- the message that a send makes
+abbrev pub sentBy : Order → To → (operation : ℕ) → (variables : List ℕ) → Message
+sentBy o to operation vs =
+    record { partner = partnerTo o to; operation = operation; count = length vs; values = stored 4 (valuesOf o vs); reply = replyOf to }
+
+-- what a message gives to whoever takes it: its four values, and then its reply partner
+abbrev pub gives : Message → List ℕ
+gives m = m .values ++ (m .reply ∷ [])
+
 -- "Send (adds a message)"; a taken message leaves the table, and its values are bound
 unfoldable pub messagesAfter : Doing → (place : ℕ) → Order → State → State
 messagesAfter noStep j o s = s
-messagesAfter (sends partner operation vs) j o s =
-    cond (allBound o vs)
-    (adding (record { partner = partner; operation = operation; count = length vs; values = stored 4 (valuesOf o vs) }) s)
-    s
-messagesAfter (takes partner operation vs) j o s = removing j s
+messagesAfter (sends to operation vs) j o s = cond (maySend o to vs) (adding (sentBy o to operation vs) s) s
+messagesAfter (takes from operation vs) j o s = removing j s
 messagesAfter moves j o s = s
 messagesAfter cuts j o s = s
 messagesAfter (closes undo x) j o s = s
 
 unfoldable pub orderTaking : Doing → Message → Order → Order
 orderTaking noStep m o = o
-orderTaking (sends partner operation vs) m o = o
-orderTaking (takes partner operation vs) m o = bindAll vs (m .values) o
+orderTaking (sends to operation vs) m o = o
+orderTaking (takes from operation vs) m o = storing from (getD (gives m) 4 0) (bindAll vs (gives m) o)
 orderTaking moves m o = o
 orderTaking cuts m o = o
 orderTaking (closes undo x) m o = o

@@ -5,7 +5,7 @@ use mathlib.Core.List.{List, [], _∷_, _++_}
 use lib.ListN.{length, getD, drop}
 use lib.Dec.{leb, eqb}
 use Rattle.plan.specs.Found.{among}
-use Rattle.plan.specs.Tree.{Plan}
+use Rattle.plan.specs.Tree.{partnerFrom, Plan}
 use Rattle.machine.specs.declared.Message.{Message}
 use Rattle.order.specs.declared.Order.{Order}
 use Rattle.machine.specs.declared.State.{State}
@@ -51,8 +51,8 @@ unchecked p o (v ∷ vs) = cond (isChecked p o v) (unchecked p o vs) (suc (unche
 -- of an open receive that the message fits, how many places are unchecked; of anything else nothing
 unfoldable pub fitting : Plan → Order → Message → Doing → List ℕ
 fitting p o m noStep = []
-fitting p o m (sends partner operation vs) = []
-fitting p o m (takes partner operation vs) = cond (fits p o partner operation vs m) (unchecked p o vs ∷ []) []
+fitting p o m (sends to operation vs) = []
+fitting p o m (takes from operation vs) = cond (fits p o (partnerFrom from) operation vs m) (unchecked p o vs ∷ []) []
 fitting p o m moves = []
 fitting p o m cuts = []
 fitting p o m (closes undo s) = []

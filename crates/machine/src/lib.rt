@@ -10,12 +10,13 @@ ghost use mathlib.Core.Path.{_≡_};
 ghost use Rattle.machine.specs.Calls as calls;
 ghost use Rattle.machine.specs.State.{noTally};
 
-// A message: places beyond its count hold 0.
+// A message: places beyond its count hold 0; `reply` is the partner to reply to.
 pub struct Message {
     pub partner: u32,
     pub operation: u32,
     pub count: u32,
     pub values: [u32; 4],
+    pub reply: u32,
 }
 
 // The messages of a state: the first `waiting` places wait.

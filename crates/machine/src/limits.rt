@@ -2,6 +2,7 @@
 use super::Message;
 use super::State;
 use order::Order;
+use order::fault;
 use order::mark;
 use plan::Answer;
 use plan::table::LENGTH;
@@ -21,9 +22,9 @@ ghost use Rattle.order.specs.State.{faulty, undoing, handling, stateIn};
 ghost use Rattle.machine.specs.Planned.{Bare};
 ghost use Rattle.machine.specs.Limits.{exchanged, messageInLimits, rootInLimits, markInLimits, orderInLimits, inLimits, planIn};
 
-// Whether a partner, an operation and a count of values are within their rules.
-pub fn exchange_ruled(partner: u32, operation: u32, count: u32) -> bool
-    ensures { λ r. ⌜ r ≡ exchanged partner operation count ⌝ }
+// Whether a partner, an operation, a count of values and a partner to reply to are within their rules.
+pub fn exchange_ruled(partner: u32, operation: u32, count: u32, reply: u32) -> bool
+    ensures { λ r. ⌜ r ≡ exchanged partner operation count reply ⌝ }
 {
     if 64 <= partner {
         return false;
@@ -34,7 +35,10 @@ pub fn exchange_ruled(partner: u32, operation: u32, count: u32) -> bool
     if count < 1 {
         return false;
     }
-    count <= 4
+    if 4 < count {
+        return false;
+    }
+    reply < 64
 }
 
 // Whether the values behind the first `count` are 0.
@@ -56,7 +60,7 @@ fn message_ruled(m: Message) -> bool
     ensures { λ r. ⌜ r ≡ messageInLimits m ⌝ }
 {
     let values = m.values;
-    if exchange_ruled(m.partner, m.operation, m.count) {
+    if exchange_ruled(m.partner, m.operation, m.count, m.reply) {
         return rest_zero(values, m.count);
     }
     false
@@ -130,11 +134,11 @@ fn marks_ruled(marks: &[u8]) -> bool
     largest <= 8
 }
 
-// The number of a fault: 0 to 4, and 16 and beyond.
+// The number of a fault: 0 to 5, and 16 and beyond.
 fn fault_ruled(number: u8) -> bool
     ensures { λ r. ⌜ r ≡ isFaultNumber number ⌝ }
 {
-    if number <= 4 {
+    if number <= fault::NO_SUCH_PARTNER {
         return true;
     }
     16 <= number

@@ -36,6 +36,7 @@ pub fn no_message() -> Message
         operation: 0,
         count: 0,
         values: [0u32; 4],
+        reply: 0,
     }
 }
 

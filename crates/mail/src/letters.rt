@@ -48,6 +48,7 @@ fn trim(m: Message) -> Message
         operation: m.operation,
         count: m.count,
         values: first,
+        reply: m.reply,
     }
 }
 
@@ -89,7 +90,7 @@ pub fn with_message(messages: [Message; 64], waiting: usize, m: Message) -> Mail
 pub(crate) fn post_by(state: State, m: Message) -> Posted
     ensures { λ r. ⌜ ((p : Plan) → r ≡ postBy p m state) ⌝ }
 {
-    if !limits::exchange_ruled(m.partner, m.operation, m.count) {
+    if !limits::exchange_ruled(m.partner, m.operation, m.count, m.reply) {
         return Posted { refusal: 13, state };
     }
     if 64 <= state.waiting {

@@ -17,8 +17,8 @@ use Rattle.numbers.specs.Shortest.{shortest}
 use Rattle.numbers.proofs.Laws.{shortest-is-read, shortest-long}
 use Rattle.plan.specs.Found.{Found, refused, found, andThen, foundNumber, numberIn, fieldIn, among}
 use Rattle.plan.specs.Spell.{spell}
-use Rattle.plan.specs.Tree.{Exp, Own, send, receive, set, choose, repeat, sequence, flow, pick, arm, isPick, Act, Plan, size}
-use Rattle.plan.specs.Read.{expressionCodeIn, operationOf, leafIn, expressionIn, variablesIn, tupleIn, Head, head, exchangeIn, armIn, partnerIn, withExpressionIn, setIn, listIn, raiseIn, namable, faultNumberIn, isScopeCode, codeIn, partsIn, headIn, manyIn, numberedIn, numberedScopeIn, wholeIn, readArm, readsIn, laterOf, readAct, startForm, correlationIn, versionIn, closing, rootIn, readAny}
+use Rattle.plan.specs.Tree.{Exp, Own, toPartner, fromPartner, send, receive, set, choose, repeat, sequence, flow, pick, arm, isPick, Act, Plan, size}
+use Rattle.plan.specs.Read.{expressionCodeIn, operationOf, leafIn, expressionIn, variablesIn, tupleIn, Head, head, exchangeIn, armIn, partnerIn, heldSendIn, askingReceiveIn, withExpressionIn, setIn, listIn, raiseIn, namable, faultNumberIn, isCode, isScopeCode, codeIn, partsIn, headIn, manyIn, numberedIn, numberedScopeIn, wholeIn, readArm, readsIn, laterOf, readAct, startForm, correlationIn, versionIn, closing, rootIn, readAny}
 use Rattle.mend.specs.Padded.{groupsAt, paddedAt, numbersFrom, numbersOf, shortened, placeFrom, placeOf, lastPlace, noNumber, original, readPadded}
 use Rattle.mend.proofs.PaddedLaws.{next-below, padded-bounds, padded-end}
 use Rattle.mend.proofs.RunReturns.{None, short, bad, none-as, end-none, numbers-none, spell-some, place-none, place-there, place-further, Left, left-over}
@@ -227,6 +227,23 @@ module _ (o : List ℕ) where
   unfolding partnerIn
   partner vars once own r = goes-then (field 0 64 r) (λ number next p m. exchange vars once (own number) 0 m)
 
+  in-held-send : (vars : ℕ) {at q : ℕ} → Stands o at q → Goes o (heldSendIn vars o at) (heldSendIn vars (shortened o) q)
+  unfolding heldSendIn
+  in-held-send vars r =
+      goes-then (field 0 vars r) (λ v next p m.
+      goes-then (field 0 64 m) (λ operation i j k.
+      goes-then (tuple vars false k) (λ variables x y z.
+      goes-then (field 0 64 z) (λ reply a b c. same c))))
+
+  in-asking-receive : (vars : ℕ) (cs : List ℕ) {at q : ℕ} → Stands o at q → Goes o (askingReceiveIn vars cs o at) (askingReceiveIn vars cs (shortened o) q)
+  unfolding askingReceiveIn
+  in-asking-receive vars cs r =
+      goes-then (field 0 64 r) (λ partner next p m.
+      goes-then (field 0 64 m) (λ operation i j k.
+      goes-then (tuple vars true k) (λ variables x y z.
+      goes-then (field 0 vars z) (λ v a b c.
+      goes-cond (among v cs || among v variables) (kept refl refl z) (same c)))))
+
   with-expression : (vars : ℕ) (own : Exp → Own) (within : ℕ) {at q : ℕ} → Stands o at q
       → Goes o (withExpressionIn vars o own within at) (withExpressionIn vars (shortened o) own within q)
   unfolding withExpressionIn
@@ -249,7 +266,7 @@ module _ (o : List ℕ) where
   unfolding codeIn
   code handler depth n r =
       goes-then (number r) (λ c next p m.
-      goes-cond (ltb 14 c) (kept refl refl r)
+      goes-cond (not (isCode c)) (kept refl refl r)
       (goes-cond (handler && isScopeCode c) (kept refl refl r)
       (goes-cond (eqb depth 0 || leb 256 n) (kept refl refl r) (same m))))
 
@@ -257,8 +274,8 @@ module _ (o : List ℕ) where
   unfolding partsIn
   parts vars cs c r =
       goes-cond (eqb c 0) (same r)
-      (goes-cond (eqb c 1) (partner vars false send r)
-      (goes-cond (eqb c 2) (partner vars true receive r)
+      (goes-cond (eqb c 1) (partner vars false (λ p. send (toPartner p)) r)
+      (goes-cond (eqb c 2) (partner vars true (λ p. receive (fromPartner p)) r)
       (goes-cond (eqb c 3) (in-set vars cs r)
       (goes-cond (eqb c 4) (same r)
       (goes-cond (eqb c 5) (same r)
@@ -270,7 +287,9 @@ module _ (o : List ℕ) where
       (goes-cond (eqb c 11) (same r)
       (goes-cond (eqb c 12) (same r)
       (goes-cond (eqb c 13) (in-raise r)
-      (same r))))))))))))))
+      (goes-cond (eqb c 14) (same r)
+      (goes-cond (eqb c 17) (in-held-send vars r)
+      (in-asking-receive vars cs r))))))))))))))))
 
   in-head : (vars : ℕ) (cs : List ℕ) (handler : Bool) (depth n : ℕ) {at q : ℕ} → Stands o at q
       → Goes o (headIn vars cs o handler depth n at) (headIn vars cs (shortened o) handler depth n q)

@@ -9,7 +9,7 @@ use Rattle.numbers.specs.declared.Number.the-variants.{Value, Short, Bad}
 use Rattle.numbers.specs.Number.{lastGroup, groups, numberAt}
 use Rattle.plan.specs.Agree.{inBytes, askedOwn, spanOf, spanAll, askedIn, askedAll, asked, agreesWith, judged}
 use Rattle.plan.specs.Found.{numberIn, fieldIn, among}
-use Rattle.plan.specs.Read.{expressionCodeIn, leafIn, expressionIn, variablesIn, tupleIn, exchangeIn, armIn, partnerIn, withExpressionIn, setIn, listIn, raiseIn, namable, faultNumberIn, codeIn, partsIn, headIn, manyIn, numberedIn, numberedScopeIn, readArm, readAct, starts, startForm, firstStarts, everyStarts, correlationIn, versionIn, rootIn, readAny, readPlan}
+use Rattle.plan.specs.Read.{expressionCodeIn, leafIn, expressionIn, variablesIn, tupleIn, exchangeIn, armIn, partnerIn, heldSendIn, askingReceiveIn, withExpressionIn, setIn, listIn, raiseIn, namable, faultNumberIn, codeIn, partsIn, headIn, manyIn, numberedIn, numberedScopeIn, readArm, readAct, starts, startForm, firstStarts, everyStarts, correlationIn, versionIn, rootIn, readAny, readPlan}
 use Rattle.plan.specs.Spell.{spell, operationCode, expressionNumbers, exchangeNumbers, ownNumbers, gapsOf, actNumbers, actsNumbers, planNumbers, spelling}
 use Rattle.plan.specs.Tree.{kind, size, count}
 use Rattle.mend.specs.Outcome.{putAnswer, answerOf}
@@ -70,7 +70,7 @@ disagreeing l = 129 ∷ 0 ∷ 2 ∷ 0 ∷ 8 ∷ 2 ∷ 2 ∷ 3 ∷ 5 ∷ 2 ∷ 0 
 disagreement : answerOf (disagreeing []) (readPadded (disagreeing [])) 4096 ∷ answerOf (disagreeing []) (readPadded (disagreeing [])) 0
     ∷ answerOf (disagreeing (0 ∷ [])) (readPadded (disagreeing (0 ∷ []))) 4096 ∷ []
     ≡ Answer.Refused 21 17 ∷ Answer.Refused 21 17 ∷ Answer.Refused 9 20 ∷ []
-unfolding answerOf readPadded original shortened numbersOf numbersFrom paddedAt groupsAt placeOf lastPlace placeFrom spell shortest spelled lastGroup groups numberAt numberIn fieldIn among kind size count expressionCodeIn leafIn expressionIn variablesIn tupleIn exchangeIn armIn partnerIn withExpressionIn setIn listIn raiseIn namable faultNumberIn codeIn partsIn headIn manyIn numberedIn numberedScopeIn readArm readAct starts startForm firstStarts everyStarts correlationIn versionIn rootIn readAny readPlan inBytes askedOwn spanOf spanAll askedIn askedAll asked agreesWith judged operationCode expressionNumbers exchangeNumbers ownNumbers gapsOf
+unfolding answerOf readPadded original shortened numbersOf numbersFrom paddedAt groupsAt placeOf lastPlace placeFrom spell shortest spelled lastGroup groups numberAt numberIn fieldIn among kind size count expressionCodeIn leafIn expressionIn variablesIn tupleIn exchangeIn armIn partnerIn heldSendIn askingReceiveIn withExpressionIn setIn listIn raiseIn namable faultNumberIn codeIn partsIn headIn manyIn numberedIn numberedScopeIn readArm readAct starts startForm firstStarts everyStarts correlationIn versionIn rootIn readAny readPlan inBytes askedOwn spanOf spanAll askedIn askedAll asked agreesWith judged operationCode expressionNumbers exchangeNumbers ownNumbers gapsOf
 disagreement = refl
 
 -- Fault parts by number: document 02, request 4. A plan whose body is a scope with one, with its count in two groups and this number.
@@ -80,5 +80,15 @@ naming number = 1 ∷ 2 ∷ 0 ∷ 14 ∷ 2 ∷ 3 ∷ 5 ∷ 1 ∷ 0 ∷ 129 ∷ 0
 -- the number 16 in two groups: two are cut, and 15 bytes come out; 15: 5, at its place in what came in
 numbered : answerOf (naming (144 ∷ 0 ∷ [])) (readPadded (naming (144 ∷ 0 ∷ []))) 4096 ∷ answerOf (naming (15 ∷ [])) (readPadded (naming (15 ∷ []))) 4096 ∷ []
     ≡ Answer.Mended 15 2 ∷ Answer.Refused 5 11 ∷ []
-unfolding answerOf putAnswer spelling planNumbers actNumbers actsNumbers readPadded original shortened numbersOf numbersFrom groupsCut cutFrom paddedAt groupsAt placeOf lastPlace placeFrom spell shortest spelled lastGroup groups numberAt numberIn fieldIn among kind size count expressionCodeIn leafIn expressionIn variablesIn tupleIn exchangeIn armIn partnerIn withExpressionIn setIn listIn raiseIn namable faultNumberIn codeIn partsIn headIn manyIn numberedIn numberedScopeIn readArm readAct starts startForm firstStarts everyStarts correlationIn versionIn rootIn readAny readPlan inBytes askedOwn spanOf spanAll askedIn askedAll asked agreesWith judged operationCode expressionNumbers exchangeNumbers ownNumbers gapsOf
+unfolding answerOf putAnswer spelling planNumbers actNumbers actsNumbers readPadded original shortened numbersOf numbersFrom groupsCut cutFrom paddedAt groupsAt placeOf lastPlace placeFrom spell shortest spelled lastGroup groups numberAt numberIn fieldIn among kind size count expressionCodeIn leafIn expressionIn variablesIn tupleIn exchangeIn armIn partnerIn heldSendIn askingReceiveIn withExpressionIn setIn listIn raiseIn namable faultNumberIn codeIn partsIn headIn manyIn numberedIn numberedScopeIn readArm readAct starts startForm firstStarts everyStarts correlationIn versionIn rootIn readAny readPlan inBytes askedOwn spanOf spanAll askedIn askedAll asked agreesWith judged operationCode expressionNumbers exchangeNumbers ownNumbers gapsOf
 numbered = refl
+
+-- A reply address: document 02, request 5. A plan of two variables whose body is a receive of variable 0 that stores whom to reply to in this one, its code in two groups.
+abbrev storing : List ℕ → List ℕ
+storing number = 1 ∷ 2 ∷ 0 ∷ 146 ∷ 0 ∷ 3 ∷ 5 ∷ 1 ∷ 0 ∷ (number ++ (0 ∷ []))
+
+-- variable 1 in two groups: two are cut, and 10 bytes come out; 0, which is among the others: 5, at its place in what came in
+storing-mended : answerOf (storing (129 ∷ 0 ∷ [])) (readPadded (storing (129 ∷ 0 ∷ []))) 4096 ∷ answerOf (storing (0 ∷ [])) (readPadded (storing (0 ∷ []))) 4096 ∷ []
+    ≡ Answer.Mended 10 2 ∷ Answer.Refused 5 9 ∷ []
+unfolding answerOf putAnswer spelling planNumbers actNumbers actsNumbers readPadded original shortened numbersOf numbersFrom groupsCut cutFrom paddedAt groupsAt placeOf lastPlace placeFrom spell shortest spelled lastGroup groups numberAt numberIn fieldIn among kind size count expressionCodeIn leafIn expressionIn variablesIn tupleIn exchangeIn armIn partnerIn heldSendIn askingReceiveIn withExpressionIn setIn listIn raiseIn namable faultNumberIn codeIn partsIn headIn manyIn numberedIn numberedScopeIn readArm readAct starts startForm firstStarts everyStarts correlationIn versionIn rootIn readAny readPlan inBytes askedOwn spanOf spanAll askedIn askedAll asked agreesWith judged operationCode expressionNumbers exchangeNumbers ownNumbers gapsOf
+storing-mended = refl

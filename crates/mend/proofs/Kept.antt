@@ -19,7 +19,7 @@ use Rattle.plan.specs.Spell as spells
 use Rattle.plan.specs.Spell.{spell, exchangeNumbers, ownNumbers, gapsOf, gap, actNumbers, actsNumbers, planNumbers, spelling}
 use Rattle.plan.specs.Table.{bodyPlace}
 use Rattle.plan.specs.Tree as tree
-use Rattle.plan.specs.Tree.{Own, empty, send, receive, set, raise, leave, choose, repeat, sequence, flow, pick, scope, arm, Act, act, Acts, none, more, Plan, count}
+use Rattle.plan.specs.Tree.{Own, empty, fromPartner, fromAsking, send, receive, set, raise, leave, choose, repeat, sequence, flow, pick, scope, arm, kind, Act, act, Acts, none, more, Plan, count}
 use Rattle.plan.proofs.Agreeing.{Among, here, later}
 use Rattle.plan.proofs.Finds.{cond-case}
 use Rattle.plan.proofs.RowsAsked.{span-bytes}
@@ -131,11 +131,14 @@ only-one P b h here = h
 only-one P b h (later m) = no-one m
 
 own-within : (own : Own) (within at : ℕ) {a : Asked} → Among a (askedOwn inBytes own at) → Within (ownNumbers own within) at (a .place)
-unfolding askedOwn inBytes ownNumbers exchangeNumbers
+unfolding askedOwn inBytes ownNumbers exchangeNumbers kind
 own-within empty within at m = no-one m
 own-within (send p o vs) within at m = no-one m
-own-within (receive p o vs) within at m =
+own-within (receive (fromPartner p) o vs) within at m =
     only-one (λ x. Within (2 ∷ p ∷ o ∷ length vs ∷ vs) at (x .place)) _ (record { before = 2 ∷ p ∷ o ∷ []; after = length vs ∷ vs; is = refl; place = refl }) m
+own-within (receive (fromAsking p v) o vs) within at m =
+    only-one (λ x. Within (18 ∷ p ∷ o ∷ length vs ∷ (vs ++ (v ∷ []))) at (x .place)) _
+    (record { before = 18 ∷ p ∷ o ∷ []; after = length vs ∷ (vs ++ (v ∷ [])); is = refl; place = refl }) m
 own-within (set v e) within at m = no-one m
 own-within (raise n) within at m = no-one m
 own-within leave within at m = no-one m

@@ -8,7 +8,7 @@ use native.Mathlib.Omega.{arith}
 use lib.Dec.{leb}
 use lib.ListN.{length, getD, take, length-append, length-map}
 use lib.Seq.{length-take-le}
-use Rattle.plan.specs.Tree.{Plan, size}
+use Rattle.plan.specs.Tree.{partnerFrom, Plan, size}
 use Rattle.plan.specs.Within.{planWithin}
 use Rattle.machine.specs.declared.Message.{Message}
 use Rattle.order.specs.declared.Order.{Order}
@@ -52,10 +52,10 @@ unless-short false l = omega arith
 step-short : (p : Plan) (wait : ℕ) (l : List Letter) (i : ℕ) (o : Order) (k : ℕ) (d : Doing) → length l ≤ 64 → length (stepOffers p wait l i o k d .offered) ≤ 64
 unfolding stepOffers
 step-short p wait l i o k noStep h = omega arith
-step-short p wait l i o k (sends a b vs) h = let e = unless-short (sendHeld wait o vs) (offering i k 0 ∷ []) in omega (arith, e)
+step-short p wait l i o k (sends a b vs) h = let e = unless-short (sendHeld wait o a vs) (offering i k 0 ∷ []) in omega (arith, e)
 step-short p wait l i o k (takes a b vs) h =
-    let e = only-short (mayTake p o a b vs) l in
-    omega (arith, e, length-map (only (mayTake p o a b vs) l) (λ x. offering i k (x .place)))
+    let e = only-short (mayTake p o (partnerFrom a) b vs) l in
+    omega (arith, e, length-map (only (mayTake p o (partnerFrom a) b vs) l) (λ x. offering i k (x .place)))
 step-short p wait l i o k moves h = omega arith
 step-short p wait l i o k cuts h = omega arith
 step-short p wait l i o k (closes u s) h = let e = unless-short (closeHeld o u s) (offering i k 0 ∷ []) in omega (arith, e)
@@ -118,7 +118,7 @@ module _ (p : Plan) (y : planWithin p ≡ true) where
   unfolding startOf
   one-step o x k noStep = omega arith
   one-step o x k (sends a b vs) = omega arith
-  one-step o x k (takes a b vs) = one-test (fits p o a b vs (x .message)) k
+  one-step o x k (takes a b vs) = one-test (fits p o (partnerFrom a) b vs (x .message)) k
   one-step o x k moves = omega arith
   one-step o x k cuts = omega arith
   one-step o x k (closes u s) = omega arith

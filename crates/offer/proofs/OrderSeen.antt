@@ -93,18 +93,18 @@ line-seen cutting wait i o p l x s =
 -- the order in a slot
 pub acts-live : {S : Type 0} {act : Offers → S → S} → Acts act → {t picks flags known parts : List ℕ} {n : ℕ} (i : ℕ) {o : Order} {letters : List ℕ} {wait : ℕ} {least : List ℕ} {s r : S} {cutting : Bool}
     → (o .root ≡ 0 → ⊥) → KnowsOrder flags o known → Remembers o parts → Wholes t n (Marked (o .marks)) cutLine false cutting
-    → Wholes t n (Opening t picks (o .marks) known (o .bound) parts (o .kept) letters wait least) (actLine act cutting wait i) s r
+    → Wholes t n (Opening t picks (o .marks) known (o .bound) (o .values) parts (o .kept) letters wait least) (actLine act cutting wait i) s r
     → Slots t n (Informed t picks flags letters wait least) (actLive act wait) i o s r
 acts-live {act = act} a i {o} {wait = wait} {s = s} {cutting = cutting} h k m v w = record {
   is = λ p l g y.
       let e : cutting ≡ some isCut (readyOf p o) = v .is o p l (record { same = refl }) y ∙ cut-some o p l in
-      let f : Opening _ _ (o .marks) _ (o .bound) _ (o .kept) _ wait _ o p l = record {
+      let f : Opening _ _ (o .marks) _ (o .bound) (o .values) _ (o .kept) _ wait _ o p l = record {
         picked = g .picked;
         marked = refl;
         serving = record {
           heeding = record { knows = k .is p (g .correlated); told = g .told };
-          bindings = refl;
-          sixteen = k .bindings;
+          bindings = record { same = refl; sixteen = k .bindings };
+          holds = record { same = refl; sixteen = k .worths };
           memory = m;
           many = refl;
         };
@@ -115,7 +115,7 @@ acts-live {act = act} a i {o} {wait = wait} {s = s} {cutting = cutting} h k m v 
 -- `offer_slot`
 pub offer-live : {t picks flags known parts : List ℕ} {n : ℕ} (i : ℕ) {o : Order} {letters : List ℕ} {wait : ℕ} {least : List ℕ} {s r : Sight} {cutting : Bool} → (o .root ≡ 0 → ⊥)
     → KnowsOrder flags o known → Remembers o parts → Wholes t n (Marked (o .marks)) cutLine false cutting
-    → Wholes t n (Opening t picks (o .marks) known (o .bound) parts (o .kept) letters wait least) (offerLine cutting wait i) s r
+    → Wholes t n (Opening t picks (o .marks) known (o .bound) (o .values) parts (o .kept) letters wait least) (offerLine cutting wait i) s r
     → Slots t n (Informed t picks flags letters wait least) (offerLive wait) i o s r
 unfolding offerLive actLive
 offer-live i {o} {wait = wait} {s = s} {cutting = cutting} h k m v w =

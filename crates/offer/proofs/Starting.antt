@@ -10,7 +10,7 @@ use borrow.Author.Tests.{eq-eqb, ne-eqb, lt-ltb, le-ltb, le-leb, lt-leb, ltb-tru
 use lib.Dec.{eqb, ltb, leb}
 use lib.ListN.{length, getD, drop, take, drop-of-length-le}
 use lib.Seq.{drop-cons}
-use Rattle.plan.specs.Tree.{Own, empty, send, receive, set as setting, raise, leave, choose, repeat, sequence, flow, pick, scope, arm, kind, Act, act, Acts, none, more, Plan, size}
+use Rattle.plan.specs.Tree.{partnerFrom, Own, empty, send, receive, set as setting, raise, leave, choose, repeat, sequence, flow, pick, scope, arm, kind, Act, act, Acts, none, more, Plan, size}
 use Rattle.machine.specs.declared.Message.{Message}
 use Rattle.order.specs.declared.Order.{Order}
 use Rattle.fit.specs.declared.Receiver.{Receiver}
@@ -126,7 +126,7 @@ start-own : (free : ℕ) (p : Plan) (o : Order) (y : Letter) (own : Own) (w : Ac
 unfolding doingOf startOf fitsOwn folded
 start-own free p o y empty w k c = refl
 start-own free p o y (send a b vs) w k c = refl
-start-own free p o y (receive a b vs) w k c = one-start free (y .place) (fits p o a b vs (y .message)) k c
+start-own free p o y (receive a b vs) w k c = one-start free (y .place) (fits p o (partnerFrom a) b vs (y .message)) k c
 start-own free p o y (setting v e) w k c = refl
 start-own free p o y (raise zero) w k c = refl
 start-own free p o y (raise (suc number)) w k c = refl

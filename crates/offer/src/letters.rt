@@ -23,7 +23,7 @@ pub fn letter_sight(
     known: &[u64; 16],
     free: usize,
     activities: usize,
-    letters: &[u32; 448],
+    letters: &[u32; 512],
     j: usize,
     s: Sight,
 ) -> Sight

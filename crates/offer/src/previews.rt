@@ -26,7 +26,7 @@ fn sight_in(
     picks: &[usize; 256],
     orders: [Order; 16],
     activities: usize,
-    letters: &[u32; 448],
+    letters: &[u32; 512],
     waiting: usize,
     choice: usize,
 ) -> Sight

@@ -26,7 +26,7 @@ pub(crate) fn offer_slot(
     order: Order,
     slot: usize,
     activities: usize,
-    letters: &[u32; 448],
+    letters: &[u32; 512],
     waiting: usize,
     least: &[usize; 64],
     s: Sight,
@@ -39,6 +39,7 @@ pub(crate) fn offer_slot(
     }
     let marks = order.marks;
     let bound = order.bound;
+    let values = order.values;
     let parts = parts_of(order);
     let known = known_of(flags, order);
     let cutting = cut_rows(table, &marks, activities);
@@ -48,6 +49,7 @@ pub(crate) fn offer_slot(
         &marks,
         &known,
         &bound,
+        &values,
         &parts,
         order.kept,
         slot,
@@ -82,7 +84,7 @@ fn start_row(
     known: &[u64; 16],
     free: usize,
     k: usize,
-    letters: &[u32; 448],
+    letters: &[u32; 512],
     j: usize,
     s: Sight,
 ) -> Sight
@@ -106,7 +108,7 @@ fn start_rows(
     known: &[u64; 16],
     free: usize,
     activities: usize,
-    letters: &[u32; 448],
+    letters: &[u32; 512],
     j: usize,
     s: Sight,
 ) -> Sight
@@ -129,7 +131,7 @@ fn could_start(
     marks: &[u8; 256],
     known: &[u64; 16],
     activities: usize,
-    letters: &[u32; 448],
+    letters: &[u32; 512],
     j: usize,
 ) -> bool
     requires { ⌜ (activities ≤ 256) × (j < 64) ⌝ }
@@ -155,7 +157,7 @@ pub(crate) fn start_letter(
     known: &[u64; 16],
     free: usize,
     activities: usize,
-    letters: &[u32; 448],
+    letters: &[u32; 512],
     j: usize,
     s: Sight,
 ) -> Sight
@@ -196,7 +198,7 @@ fn start_letters(
     known: &[u64; 16],
     free: usize,
     activities: usize,
-    letters: &[u32; 448],
+    letters: &[u32; 512],
     waiting: usize,
     s: Sight,
 ) -> Sight
@@ -232,7 +234,7 @@ pub(crate) fn starts(
     orders: [Order; 16],
     order: Order,
     activities: usize,
-    letters: &[u32; 448],
+    letters: &[u32; 512],
     waiting: usize,
     s: Sight,
 ) -> Sight

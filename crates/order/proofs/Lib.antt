@@ -2,6 +2,7 @@ pub mod Whole
 pub mod Standing
 pub mod Deciding
 mod RowReturns
+mod SendReturns
 pub mod PartReturns
 mod MarkReturns
 mod InsideReturns

@@ -4,7 +4,7 @@ use mathlib.Core.Bool.{Bool, true, false, cond, _&&_}
 use mathlib.Core.List.{List, [], _∷_, _++_}
 use lib.ListN.{getD}
 use lib.Dec.{ltb, eqb}
-use Rattle.plan.specs.Tree.{Exp, Own, empty, send, receive, set as setting, raise, leave, choose, repeat, sequence, flow, pick, scope, arm, kind, isScope, isPick, isArm, Act, act, Acts, none, more, Plan, size}
+use Rattle.plan.specs.Tree.{Exp, To, From, fromPartner, Own, empty, send, receive, set as setting, raise, leave, choose, repeat, sequence, flow, pick, scope, arm, kind, isScope, isPick, isArm, Act, act, Acts, none, more, Plan, size}
 use Rattle.order.specs.declared.Order.{Order}
 use Rattle.order.specs.State.{active, done}
 use Rattle.order.specs.Scope.{Scope, scopeAt}
@@ -13,8 +13,8 @@ use Rattle.order.specs.Scope.{Scope, scopeAt}
 -- decide, to cut off is to raise or to leave; a close says whether the scope has an undo part of its own.
 pub data Doing : Type 0 where
   noStep : Doing
-  sends : (partner operation : ℕ) → (variables : List ℕ) → Doing
-  takes : (partner operation : ℕ) → (variables : List ℕ) → Doing
+  sends : To → (operation : ℕ) → (variables : List ℕ) → Doing
+  takes : From → (operation : ℕ) → (variables : List ℕ) → Doing
   moves : Doing
   cuts : Doing
   closes : (undo : Bool) → Scope → Doing
@@ -32,7 +32,7 @@ doingOf sequence within k = noStep
 doingOf flow within k = noStep
 doingOf pick within k = noStep
 doingOf (scope ns undo) within k = closes undo (scopeAt ns k within)
-doingOf (arm p o vs) within k = takes p o vs
+doingOf (arm p o vs) within k = takes (fromPartner p) o vs
 
 -- whether it awaits that step: an arm where its pick is active, a scope where its body is done, all else where it is active
 unfoldable pub awaits : Own → (armsOpen : Bool) → (mark : ℕ) → Bool

@@ -4,7 +4,7 @@ use mathlib.Core.Bool.{Bool, true, false, cond, _&&_}
 use mathlib.Core.List.{List, [], _∷_, _++_}
 use lib.ListN.{getD}
 use lib.Dec.{eqb}
-use Rattle.plan.specs.Tree.{Plan, size}
+use Rattle.plan.specs.Tree.{From, partnerFrom, Plan, size}
 use Rattle.order.specs.declared.Order.{Order}
 use Rattle.order.specs.declared.End.{End}
 use Rattle.order.specs.declared.End.the-variants.{None, Well, Handled, Failed, Left}
@@ -14,11 +14,12 @@ use Rattle.order.specs.Event.{Event}
 use Rattle.order.specs.Acting.{Actor, itsOwn, inPlace, Moved, acted}
 use Rattle.order.specs.Awaited.{Doing, noStep, sends, takes, moves, cuts, closes, Ready, readyOf, kindAt}
 
--- "a receive in an order with the partner, operation and variables of one already open there": the variables in the same order
-unfoldable pub isThing : (partner operation : ℕ) → (variables : List ℕ) → Doing → Bool
+-- "a receive in an order with the partner, operation and variables of one already open there": the variables in the same order; where a reply partner is stored is
+-- ignored
+unfoldable pub isThing : From → (operation : ℕ) → (variables : List ℕ) → Doing → Bool
 isThing p q vs noStep = false
 isThing p q vs (sends p′ q′ ws) = false
-isThing p q vs (takes p′ q′ ws) = eqb p p′ && (eqb q q′ && alike vs ws)
+isThing p q vs (takes p′ q′ ws) = eqb (partnerFrom p) (partnerFrom p′) && (eqb q q′ && alike vs ws)
 isThing p q vs moves = false
 isThing p q vs cuts = false
 isThing p q vs (closes undo s) = false

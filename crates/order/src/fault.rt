@@ -13,3 +13,6 @@ pub const BELOW_ZERO: u8 = 3;
 
 // A raise in place of the higher-numbered of two that await the same message.
 pub const CONFLICTING_RECEIVE: u8 = 4;
+
+// A send whose variable holds no partner: one above 63.
+pub const NO_SUCH_PARTNER: u8 = 5;

@@ -8,6 +8,7 @@ pub mod marks;
 pub mod memory;
 pub mod parts;
 pub mod rows;
+pub mod sending;
 
 // An order. Where `root` is 0 the slot is free; else `root` is the mark of the root, which counts as a scope and has no number.
 // `marks` has the mark of each activity by its number. `bound` is 1 where the variable of that number is bound and 0 where it is not.

@@ -4,6 +4,7 @@ use drawing::put;
 use drawing::put_byte;
 use drawing::put_next;
 use drawing::put_number;
+use plan::kind;
 
 // What a receive or an arm asks for; a count of 0 where there is none.
 struct Asked {
@@ -107,7 +108,14 @@ fn is_within(lines: &[u32; 4355], row: usize) -> bool {
     line_of(lines, row) == line_of(lines, row - 1)
 }
 
-// What a row asks for. Rows do not say what they are: an arm's begins with its partner, a receive's with the code 2; the text tells them apart.
+fn is_receive(code: u32) -> bool {
+    match code {
+        kind::RECEIVE | kind::ASKING_RECEIVE => true,
+        _ => false,
+    }
+}
+
+// What a row asks for. Rows do not say what they are: an arm's begins with its partner, a receive's with its code; the text tells them apart.
 fn asked_in(text: &[u8], rows: &[u32; 87100], lines: &[u32; 4355], row: usize) -> Asked {
     if is_within(lines, row) {
         return taken(rows, row, 3);
@@ -115,7 +123,7 @@ fn asked_in(text: &[u8], rows: &[u32; 87100], lines: &[u32; 4355], row: usize) -
     if is_arm(text, line_of(lines, row)) {
         return taken(rows, row, 1);
     }
-    if cell(rows, row, 1) == 2 {
+    if is_receive(cell(rows, row, 1)) {
         return taken(rows, row, 2);
     }
     taken(rows, row, 3)

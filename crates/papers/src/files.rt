@@ -205,7 +205,7 @@ fn filed(desk: Desk, file: u64, seen: u64) -> Desk {
 
 // The bytes of a file that the desk saves.
 fn put_desk(desk: Desk, names: &[u8; 16896], file: &mut [u8]) {
-    let mut packed = [0u8; 12492];
+    let mut packed = [0u8; 12748];
     let state = desk.state;
     let tally = desk.tally;
     store::pack(state, tally, &mut packed);
@@ -226,7 +226,7 @@ pub fn save(
     if drawing::is_lost(used) {
         return before;
     }
-    let mut bytes = [0u8; 29404];
+    let mut bytes = [0u8; 29660];
     put_desk(desk, names, &mut bytes);
     let e = saved(file, &bytes);
     filed(
@@ -336,7 +336,7 @@ fn put_changed(desk: Desk, number: u64, out: &mut [u8; 4096]) -> Desk {
 
 // The state that bytes hold, of whatever version.
 fn kept_in(bytes: &[u8]) -> Kept {
-    let mut packed = [0u8; 12492];
+    let mut packed = [0u8; 12748];
     boundary_state::moonhalyard_upgrade(bytes, &mut packed);
     store::unpack(&packed)
 }
@@ -399,8 +399,7 @@ fn read(
     names: &mut [u8; 16896],
     out: &mut [u8; 4096],
 ) -> Desk {
-    // one byte more than a file has, so that a longer one is known
-    let mut held = [0u8; 29405];
+    let mut held = [0u8; sealed::READ];
     let n = io::read_full(fd, &mut held);
     let e = unread(fd, n);
     libc::close(fd);

@@ -33,6 +33,7 @@ pub use plans::load;
 pub use plans::names;
 pub use plans::new;
 pub use plans::show;
+pub use sealed::READ;
 pub use sums::sum_of;
 pub use writing::write;
 

@@ -40,6 +40,16 @@ fn put_activity(out: &mut [u8; 4096], used: usize, reason: usize) -> usize {
         13 => put(out, used, b"the variable is not for correlation"),
         24 => put(out, used, b"expected 'set V to E'"),
         25 => put(out, used, b"nothing stands behind this word"),
+        29 => put(
+            out,
+            used,
+            b"expected 'with reply to partner P' in a send to the partner in a variable, 'with reply to into V' in a receive; no other send has it, and no arm",
+        ),
+        30 => put(
+            out,
+            used,
+            b"expected 'the partner in V, operation O: V, ..'",
+        ),
         _ => put(
             out,
             used,
@@ -86,10 +96,13 @@ fn is_of_declaration(reason: usize) -> bool {
     if reason == 22 {
         return true;
     }
-    if 26 < reason {
+    if reason == 23 {
         return true;
     }
-    reason == 23
+    if reason == 27 {
+        return true;
+    }
+    reason == 28
 }
 
 fn is_of_activity(reason: usize) -> bool {

@@ -18,6 +18,16 @@ fn put_message(out: &mut [u8; 4096], used: usize) -> usize {
 fn put_activity(out: &mut [u8; 4096], used: usize, code: u32) -> usize {
     match code {
         kind::SEND | kind::RECEIVE => put_message(out, used),
+        kind::HELD_SEND => put(
+            out,
+            used,
+            b" - operation and the partner to reply to are 0 to 63, and the variables, the partner's and 1 to 4 more, are of the plan",
+        ),
+        kind::ASKING_RECEIVE => put(
+            out,
+            used,
+            b" - partner and operation are 0 to 63, and 1 to 4 variables of the plan follow, none twice; the one that stores whom to reply to is another, and not for correlation",
+        ),
         kind::SET => put(
             out,
             used,
@@ -35,7 +45,7 @@ fn put_numbers(out: &mut [u8; 4096], used: usize) -> usize {
     put(
         out,
         used,
-        b" - a scope has up to 8 fault parts by number, for 0 to 4 and 16 to 255, no two for one",
+        b" - a scope has up to 8 fault parts by number, for 0 to 5 and 16 to 255, no two for one",
     )
 }
 

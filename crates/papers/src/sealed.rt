@@ -1,5 +1,6 @@
-// A saved file as bytes: the state with its tally (12,492), the names (16,896), the version of the file, MOONDSK3 (8), and the seal of all before it (8). A file of the
-// second version, MOONDSK2, has no names of scopes and faults, and 4,752 bytes of names; one of the first, MOONDSK1, neither, and a state of 12,476 bytes.
+// A saved file as bytes: the state with its tally (12,748), the names (16,896), the version of the file, MOONDSK4 (8), and the seal of all before it (8). A file of the
+// third version, MOONDSK3, has a state of 12,492 bytes; one of the second, MOONDSK2, the same, no names of scopes and faults, and 4,752 bytes of names; one of the first,
+// MOONDSK1, those names and a state of 12,476 bytes.
 
 ghost use Prim.Native.Nat.{_≤_};
 
@@ -20,7 +21,7 @@ fn put_at(file: &mut [u8], at: usize, bytes: &[u8]) {
     let mut i = 0;
     while i < bytes.len() {
         set_byte(file, place, bytes[i]);
-        if place < 29404 {
+        if place < 29660 {
             place += 1;
         }
         i += 1;
@@ -37,20 +38,23 @@ fn seal_of(file: &[u8], end: usize) -> u64 {
 
 // That seal into the last eight bytes, the lowest first.
 fn put_seal(file: &mut [u8]) {
-    let mut left = seal_of(&file[..], 29396);
-    let mut place: usize = 29396;
-    while place < 29404 {
+    let mut left = seal_of(&file[..], 29652);
+    let mut place: usize = 29652;
+    while place < 29660 {
         set_byte(file, place, (left % 256) as u8);
         left /= 256;
         place += 1;
     }
 }
 
-// The file of a packed state and the names, in 29,404 bytes.
+// How many bytes are read of a file: one more than a saved one has, so that a longer one is known.
+pub const READ: usize = 29661;
+
+// The file of a packed state and the names, in 29,660 bytes.
 pub(crate) fn put_file(file: &mut [u8], packed: &[u8], names: &[u8]) {
     put_at(file, 0, packed);
-    put_at(file, 12492, names);
-    put_at(file, 29388, b"MOONDSK3");
+    put_at(file, 12748, names);
+    put_at(file, 29644, b"MOONDSK4");
     put_seal(file);
 }
 
@@ -90,6 +94,9 @@ fn is_whole(file: &[u8], size: usize, version: &[u8]) -> bool
 
 // Whether bytes are a file that a desk saved, whole and unchanged.
 pub(crate) fn is_sealed(file: &[u8]) -> bool {
+    if is_whole(file, 29660, b"MOONDSK4") {
+        return true;
+    }
     if is_whole(file, 29404, b"MOONDSK3") {
         return true;
     }
@@ -118,7 +125,10 @@ pub(crate) fn state_size(bytes: &[u8]) -> usize {
     if bytes[7] == b'2' {
         return 12476;
     }
-    12492
+    if bytes[7] == b'3' {
+        return 12492;
+    }
+    12748
 }
 
 // Where the names start in a file of this size.
@@ -126,12 +136,15 @@ fn names_start(size: usize) -> usize {
     if size == 17244 {
         return 12476;
     }
-    12492
+    if size < 29660 {
+        return 12492;
+    }
+    12748
 }
 
 // Byte i of the names, which start at a place of a file, and behind which are its version and its seal; 0 where there is no more of them.
 fn name_byte(file: &[u8], start: usize, i: usize) -> u8 {
-    if start < 12493 {
+    if start < 12749 {
         if i < 16896 {
             if start + i + 16 < file.len() {
                 return file[start + i];

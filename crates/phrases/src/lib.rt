@@ -82,7 +82,7 @@ pub fn part(line: &[u8], from: usize, to: usize) -> &[u8] {
 }
 
 // Whether a word stands from a place on.
-fn has_more(line: &[u8], at: usize) -> bool {
+pub fn has_more(line: &[u8], at: usize) -> bool {
     let w = word_at(line, at);
     w.from < w.to
 }

@@ -14,12 +14,12 @@ use Rattle.numbers.specs.Shortest.{shortest}
 use Rattle.numbers.specs.declared.Number.the-variants.{Value}
 use Rattle.numbers.proofs.Laws.{shortest-is-read}
 use Rattle.plan.specs.Found.{Found, found, andThen, numberIn, fieldIn, among}
-use Rattle.plan.specs.Read.{expressionCodeIn, operationOf, leafIn, expressionIn, variablesIn, tupleIn, Head, head, exchangeIn, armIn, partnerIn, withExpressionIn, setIn, listIn, raiseIn, namable, faultNumberIn, isScopeCode, codeIn, partsIn, headIn, manyIn, numberedHead, numberedIn, numberedScopeIn, readArm, laterOf, readAct, startForm, correlationIn, versionIn, rootIn, readAny}
+use Rattle.plan.specs.Read.{expressionCodeIn, operationOf, leafIn, expressionIn, variablesIn, tupleIn, Head, head, exchangeIn, armIn, partnerIn, heldSendIn, askingReceiveIn, withExpressionIn, setIn, listIn, raiseIn, namable, faultNumberIn, isCode, isScopeCode, codeIn, partsIn, headIn, manyIn, numberedHead, numberedIn, numberedScopeIn, readArm, laterOf, readAct, startForm, correlationIn, versionIn, rootIn, readAny}
 use Rattle.plan.specs.Spell.{spell, operationCode, expressionNumbers, exchangeNumbers, ownNumbers, gapsOf, actNumbers, actsNumbers, planNumbers, spelling}
-use Rattle.plan.specs.Tree.{Operation, sum, difference, equal, less, Exp, constant, variable, binary, Own, empty, send, receive, set, raise, leave, choose, repeat, sequence, flow, pick, scope, arm, kind, numbersOf, Act, act, Acts, none, more, Plan, size, sizes, count, isPick, isScope}
+use Rattle.plan.specs.Tree.{Operation, sum, difference, equal, less, Exp, constant, variable, binary, Own, empty, toPartner, toHeld, fromPartner, fromAsking, send, receive, set, raise, leave, choose, repeat, sequence, flow, pick, scope, arm, kind, numbersOf, Act, act, Acts, none, more, Plan, size, sizes, count, isPick, isScope}
 use Rattle.plan.specs.Within.{expressionWithin, variablesWithin, exchangeWithin, from1, numbersEach, numbersWithin, ownWithin, actWithin, actsWithin, ascending, planWithin}
 use Rattle.plan.proofs.Stands.{scope-numbers}
-use Rattle.plan.proofs.ByKind.{raise-limits, ByNumber, plain, numbered, by-number, namable-small}
+use Rattle.plan.proofs.ByKind.{raise-limits, ByNumber, plain, numbered, by-number, namable-small, early-code, code-small}
 
 -- both of two tests hold
 pub both : (a b : Bool) {P : Type 0} → (a && b) ≡ true → (a ≡ true → b ≡ true → P) → P
@@ -206,6 +206,25 @@ module _ {rest s : List ℕ} (vars : ℕ) (few : vars ≤ 16) where
   an-arm {partner} x room t =
       and-then _ (field (omega arith) (x .partner-known) (omega arith) t) (λ p u. rw (lt-leb _ _ room) (exchange x (arm partner) 1 u))
 
+  a-held-send : {v reply operation : ℕ} {l : List ℕ} → ltb v vars ≡ true → Exchange vars false reply operation l → {at : ℕ} {ns : List ℕ}
+      → Left rest s at (v ∷ operation ∷ length l ∷ ((l ++ (reply ∷ [])) ++ ns)) → Gives rest s (heldSendIn vars s at) (head (send (toHeld v reply) operation l) 0) ns
+  unfolding heldSendIn
+  a-held-send {reply = reply} {l = l} k x {ns = ns} t =
+      and-then _ (a-variable k t) (λ p u.
+      and-then _ (field (omega arith) (x .operation-known) (omega arith) u) (λ q w.
+      and-then _ (tuple x (rw (append-assoc l (reply ∷ []) ns) at w)) (λ r y.
+      and-then _ (field (omega arith) (x .partner-known) (omega arith) y) (λ e z. ends z))))
+
+  an-asking-receive : (cs : List ℕ) {partner operation v : ℕ} {l : List ℕ} → ltb v vars ≡ true → (among v cs || among v l) ≡ false → Exchange vars true partner operation l
+      → {at : ℕ} {ns : List ℕ} → Left rest s at (partner ∷ operation ∷ length l ∷ ((l ++ (v ∷ [])) ++ ns))
+      → Gives rest s (askingReceiveIn vars cs s at) (head (receive (fromAsking partner v) operation l) 0) ns
+  unfolding askingReceiveIn
+  an-asking-receive cs {v = v} {l = l} k m x {ns = ns} t =
+      and-then _ (field (omega arith) (x .partner-known) (omega arith) t) (λ p u.
+      and-then _ (field (omega arith) (x .operation-known) (omega arith) u) (λ q w.
+      and-then _ (tuple x (rw (append-assoc l (v ∷ []) ns) at w)) (λ r y.
+      and-then _ (a-variable k y) (λ e z. rw m (ends z)))))
+
   with-expression : (own : Exp → Own) (within : ℕ) (e : Exp) {at : ℕ} {ns : List ℕ} → expressionWithin vars e 8 ≡ true
       → Left rest s at (expressionNumbers e ++ ns) → Gives rest s (withExpressionIn vars s own within at) (head (own e) within) ns
   unfolding withExpressionIn
@@ -231,36 +250,42 @@ module _ {rest s : List ℕ} (vars : ℕ) (few : vars ≤ 16) where
   a-raise number l t = and-then _ (field (l .0) (l .1) (omega (arith, l .1)) t) (λ p u. ends u)
 
   module _ (handler : Bool) {depth n : ℕ} (levels : 0 < depth) (room : n < 256) where
-    code : {code at : ℕ} {ns : List ℕ} → code ≤ 14 → (handler && isScopeCode code) ≡ false → Left rest s at (code ∷ ns)
+    code : {code at : ℕ} {ns : List ℕ} → isCode code ≡ true → (handler && isScopeCode code) ≡ false → Left rest s at (code ∷ ns)
         → Gives rest s (codeIn s handler depth n at) code ns
     unfolding codeIn
-    code h k t =
-        and-then _ (number (omega arith) t) (λ p u. rw (le-ltb _ _ h, k, ne-eqb depth 0 (λ z. omega arith), lt-leb _ _ room) (ends u))
+    code {code = c} h k t =
+        and-then _ (number (omega (arith, code-small c h)) t) (λ p u. rw (h, k, ne-eqb depth 0 (λ z. omega arith), lt-leb _ _ room) (ends u))
 
     -- an activity's code, and what follows it
     coded : (cs : List ℕ) {code at : ℕ} {h : Head} {ms ns : List ℕ} → code ≤ 10 → Left rest s at (code ∷ ms)
         → ((p : ℕ) → Left rest s p ms → Gives rest s (partsIn vars cs s code p) h ns) → Gives rest s (headIn vars cs s handler depth n at) h ns
     unfolding headIn
-    coded cs {code = c} k t parts = and-then _ (code (omega arith) (rw (ne-eqb c 11 (λ z. omega arith), ne-eqb c 12 (λ z. omega arith), ne-eqb c 14 (λ z. omega arith)) (and-false handler)) t) parts
+    coded cs {code = c} k t parts = and-then _ (code (early-code c (omega arith)) (rw (ne-eqb c 11 (λ z. omega arith), ne-eqb c 12 (λ z. omega arith), ne-eqb c 14 (λ z. omega arith)) (and-false handler)) t) parts
 
     -- an activity before those within it; a scope with fault parts by number below
     an-own : (cs : List ℕ) (own : Own) (within : ℕ) {at : ℕ} {ns : List ℕ} → numbersOf own ≡ [] → ownWithin vars cs handler false own within ≡ true
         → Left rest s at (ownNumbers own within ++ ns) → Gives rest s (headIn vars cs s handler depth n at) (head own within) ns
     unfolding headIn partsIn ownWithin ownNumbers exchangeNumbers
     an-own cs empty within k h t = rw (eqb-true within 0 h) (coded cs (omega arith) t (λ p u. ends u))
-    an-own cs (send partner operation l) within k h t =
+    an-own cs (send (toPartner partner) operation l) within k h t =
         both (eqb within 0) _ h (λ z x. rw (eqb-true within 0 z)
-        (coded cs (omega arith) t (λ p u. with-partner (exchange-of vars false partner operation l x) send u)))
-    an-own cs (receive partner operation l) within k h t =
+        (coded cs (omega arith) t (λ p u. with-partner (exchange-of vars false partner operation l x) (λ q. send (toPartner q)) u)))
+    an-own cs (send (toHeld v reply) operation l) within k h t =
+        both (eqb within 0) _ h (λ z h1. both (ltb v vars) _ h1 (λ y x. rw (eqb-true within 0 z)
+        (and-then _ (code refl (and-false handler) t) (λ p u. a-held-send y (exchange-of vars false reply operation l x) u))))
+    an-own cs (receive (fromPartner partner) operation l) within k h t =
         both (eqb within 0) _ h (λ z x. rw (eqb-true within 0 z)
-        (coded cs (omega arith) t (λ p u. with-partner (exchange-of vars true partner operation l x) receive u)))
+        (coded cs (omega arith) t (λ p u. with-partner (exchange-of vars true partner operation l x) (λ q. receive (fromPartner q)) u)))
+    an-own cs (receive (fromAsking partner v) operation l) within k h t =
+        both (eqb within 0) _ h (λ z h1. both (exchangeWithin vars true partner operation l) _ h1 (λ x h2. both (ltb v vars) _ h2 (λ y w. rw (eqb-true within 0 z)
+        (and-then _ (code refl (and-false handler) t) (λ p u. an-asking-receive cs y (not-true _ w) (exchange-of vars true partner operation l x) u)))))
     an-own cs (set v e) within k h t =
         both (eqb within 0) _ h (λ z h1. both (ltb v vars) _ h1 (λ x h2. both (not (among v cs)) _ h2 (λ y w. rw (eqb-true within 0 z)
         (coded cs (omega arith) t (λ p u. a-set cs v e x (not-true _ y) w u)))))
     an-own cs (raise zero) within k h t =
         both (eqb within 0) _ h (λ z x. rw (eqb-true within 0 z) (coded cs (omega arith) t (λ p u. ends u)))
     an-own cs (raise (suc number)) within k h t =
-        both (eqb within 0) _ h (λ z x. rw (eqb-true within 0 z) (and-then _ (code (omega arith) (and-false handler) t) (λ p u. a-raise (suc number) (raise-limits number x) u)))
+        both (eqb within 0) _ h (λ z x. rw (eqb-true within 0 z) (and-then _ (code refl (and-false handler) t) (λ p u. a-raise (suc number) (raise-limits number x) u)))
     an-own cs leave within k h t = rw (eqb-true within 0 h) (coded cs (omega arith) t (λ p u. ends u))
     an-own cs (choose e) within k h t =
         both (eqb within 2) _ h (λ z x. rw (eqb-true within 2 z) (coded cs (omega arith) t (λ p u. with-expression choose 2 e x u)))
@@ -271,17 +296,17 @@ module _ {rest s : List ℕ} (vars : ℕ) (few : vars ≤ 16) where
     an-own cs pick within k h t = coded cs (omega arith) t (λ p u. a-list pick 8 within h (omega arith) u)
     an-own cs (scope [] true) within k h t =
         both (eqb within 3) _ h (λ z x. both (not handler) _ x (λ y w. rw (eqb-true within 3 z)
-        (and-then _ (code (omega arith) (rw (not-true handler y)) t) (λ p u. ends u))))
+        (and-then _ (code refl (rw (not-true handler y)) t) (λ p u. ends u))))
     an-own cs (scope [] false) within k h t =
         both (eqb within 2) _ h (λ z x. both (not handler) _ x (λ y w. rw (eqb-true within 2 z)
-        (and-then _ (code (omega arith) (rw (not-true handler y)) t) (λ p u. ends u))))
+        (and-then _ (code refl (rw (not-true handler y)) t) (λ p u. ends u))))
     an-own cs (scope (n ∷ l) undo) within k h t = let z : _≡_ {A = ℕ} 0 1 = cc in absurd (omega arith)
     an-own cs (arm partner operation l) within k h t = absurd (false≢true h)
 
     -- a scope with fault parts by number, before its body
     numbered-own : (cs : List ℕ) {at : ℕ} {ns : List ℕ} → handler ≡ false → Left rest s at (14 ∷ ns) → Gives rest s (headIn vars cs s handler depth n at) numberedHead ns
     unfolding headIn partsIn
-    numbered-own cs e t = and-then _ (code (omega arith) (rw e) t) (λ p u. ends u)
+    numbered-own cs e t = and-then _ (code refl (rw e) t) (λ p u. ends u)
 
   -- an arm before the activity within it
   an-arm-own : (cs : List ℕ) (handler : Bool) (own : Own) (within : ℕ) {n at : ℕ} {ns : List ℕ} → n < 256 → ownWithin vars cs handler true own within ≡ true
@@ -290,8 +315,10 @@ module _ {rest s : List ℕ} (vars : ℕ) (few : vars ≤ 16) where
   an-arm-own cs handler (arm partner operation l) within room h t =
       ((refl, (refl, refl)), both (eqb within 1) _ h (λ z x. rw (eqb-true within 1 z) (an-arm (exchange-of vars true partner operation l x) room t)))
   an-arm-own cs handler empty within room h t = absurd (false≢true h)
-  an-arm-own cs handler (send partner operation l) within room h t = absurd (false≢true h)
-  an-arm-own cs handler (receive partner operation l) within room h t = absurd (false≢true h)
+  an-arm-own cs handler (send (toPartner partner) operation l) within room h t = absurd (false≢true h)
+  an-arm-own cs handler (send (toHeld v reply) operation l) within room h t = absurd (false≢true h)
+  an-arm-own cs handler (receive (fromPartner partner) operation l) within room h t = absurd (false≢true h)
+  an-arm-own cs handler (receive (fromAsking partner v) operation l) within room h t = absurd (false≢true h)
   an-arm-own cs handler (set v e) within room h t = absurd (false≢true h)
   an-arm-own cs handler (raise n) within room h t = absurd (false≢true h)
   an-arm-own cs handler leave within room h t = absurd (false≢true h)

@@ -14,7 +14,7 @@ use Rattle.plan.specs.Table.{noted, putRow, rowOf, putNode, putNodes, no
 use Rattle.plan.specs.Tree as tree
 use Rattle.plan.specs.Tree.{Exp, constant, variable, binary, Own, empty, send, receive, raise, leave, choose, repeat, sequence, flow, pick, scope, arm, numbersOf, Act, act, Acts, none, more, size, sizes, count}
 
-store-beside : (r : List ℕ) (base offset i x : ℕ) (t : List ℕ) → i < base + offset → store r base offset (set t i x) ≡ set (store r base offset t) i x
+pub store-beside : (r : List ℕ) (base offset i x : ℕ) (t : List ℕ) → i < base + offset → store r base offset (set t i x) ≡ set (store r base offset t) i x
 unfolding store
 store-beside [] base offset i x t h = refl
 store-beside (y ∷ r) base offset i x t h =
@@ -23,9 +23,9 @@ store-beside (y ∷ r) base offset i x t h =
 
 -- a place in the rows
 module _ (i x : ℕ) (low : i < 3328) where
-  noted-beside : (k p : ℕ) (t : List ℕ) → noted k p (set t i x) ≡ set (noted k p t) i x
+  pub noted-beside : (k p : ℕ) (t : List ℕ) → noted k p (set t i x) ≡ set (noted k p t) i x
   unfolding noted
-  noted-beside k p t = go (eqb k 2 || eqb k 255)
+  noted-beside k p t = go (eqb k 2 || (eqb k 18 || eqb k 255))
     where
       go : (b : Bool) → cond b (store (1 ∷ []) (3328 + p) 0 (set t i x)) (set t i x) ≡ set (cond b (store (1 ∷ []) (3328 + p) 0 t) t) i x
       go true = store-beside (1 ∷ []) (3328 + p) 0 i x t (omega arith)

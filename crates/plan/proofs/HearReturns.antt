@@ -36,13 +36,17 @@ pub ahead-receive : (kind : ℕ) → kind ≡ 2 → 3 ≡ aheadOf kind
 unfolding aheadOf
 ahead-receive kind e = rw e
 
+pub ahead-asking : (kind : ℕ) → kind ≡ 18 → 3 ≡ aheadOf kind
+unfolding aheadOf
+ahead-asking kind e = rw e
+
 pub ahead-arm : (kind : ℕ) → kind ≡ 255 → 2 ≡ aheadOf kind
 unfolding aheadOf
 ahead-arm kind e = rw e
 
-pub ahead-none : (kind : ℕ) → (kind ≡ 2 → ⊥) → (kind ≡ 255 → ⊥) → 0 ≡ aheadOf kind
+pub ahead-none : (kind : ℕ) → (kind ≡ 2 → ⊥) → (kind ≡ 18 → ⊥) → (kind ≡ 255 → ⊥) → 0 ≡ aheadOf kind
 unfolding aheadOf
-ahead-none kind n m = rw (ne-eqb kind 2 n, ne-eqb kind 255 m)
+ahead-none kind n l m = rw (ne-eqb kind 2 n, ne-eqb kind 18 l, ne-eqb kind 255 m)
 
 -- `hear_row`
 module _ (t : List ℕ) (k : ℕ) {kind skip : ℕ} (a : kind ≡ getD t (k * 13 + 0) 0) (b : skip ≡ aheadOf kind) (s : Noted) where

@@ -12,7 +12,7 @@ use Rattle.plan.specs.Spell.{operationCode, gapsOf, later, passing}
 use Rattle.plan.specs.Spells.{variablesOf}
 use Rattle.plan.specs.Store.{store, padded}
 use Rattle.plan.specs.Table.{row, rowOf, noted, putRow, nodesOf, putNode, putNodes, ownNodes, putOwnNodes, putOwn, putClose, nodes, nodesAll, put, putAll}
-use Rattle.plan.specs.Tree.{Exp, constant, variable, binary, Own, empty, send, receive, set, raise, leave, choose, repeat, sequence, flow, pick, scope, arm, kind, numbersOf, Act, act, Acts, none, more, size, sizes}
+use Rattle.plan.specs.Tree.{Exp, constant, variable, binary, Own, empty, toPartner, toHeld, fromPartner, fromAsking, send, receive, set, raise, leave, choose, repeat, sequence, flow, pick, scope, arm, kind, numbersOf, Act, act, Acts, none, more, size, sizes}
 
 -- u is as long as t, and has its numbers but from k up to, not including, e
 pub record But (k e : ℕ) (t u : List ℕ) : Type 0 where
@@ -74,7 +74,7 @@ partnerOf own = getD (rowOf own 0 0) 1 0
 
 -- that what is noted has a flag: the partner of a receive or an arm; and that each one noted in a tree has
 abbrev pub Noting : (kind partner : ℕ) → Type 0
-Noting k p = (eqb k 2 || eqb k 255) ≡ true → p < 64
+Noting k p = (eqb k 2 || (eqb k 18 || eqb k 255)) ≡ true → p < 64
 
 unfoldable mutual
   pub Partners : Act → Type 0
@@ -89,8 +89,10 @@ pub row-is : (own : Own) (m at : ℕ) → numbersOf own ≡ []
     → rowOf own m at ≡ row (kind own) (partnerOf own) (getD (rowOf own 0 0) 2 0) (variablesOf own) (getD (rowOf own 0 0) 8 0) (getD (rowOf own m 0) 9 0) at
 unfolding rowOf kind variablesOf padded store
 row-is empty m at h = refl
-row-is (send p o vs) m at h = refl
-row-is (receive p o vs) m at h = refl
+row-is (send (toPartner p) o vs) m at h = refl
+row-is (send (toHeld v r) o vs) m at h = refl
+row-is (receive (fromPartner p) o vs) m at h = refl
+row-is (receive (fromAsking p v) o vs) m at h = refl
 row-is (set v e) m at h = refl
 row-is (raise zero) m at h = refl
 row-is (raise (suc number)) m at h = refl
@@ -114,8 +116,10 @@ pub record Rowed (own : Own) (m at : ℕ) : Type 0 where
 pub rowed : (own : Own) (m at : ℕ) → Rowed own m at
 unfolding rowOf kind
 rowed empty m at = record { long = refl; kind-is = refl; partner-is = refl; place-is = refl }
-rowed (send p o vs) m at = record { long = refl; kind-is = refl; partner-is = refl; place-is = refl }
-rowed (receive p o vs) m at = record { long = refl; kind-is = refl; partner-is = refl; place-is = refl }
+rowed (send (toPartner p) o vs) m at = record { long = refl; kind-is = refl; partner-is = refl; place-is = refl }
+rowed (send (toHeld v r) o vs) m at = record { long = refl; kind-is = refl; partner-is = refl; place-is = refl }
+rowed (receive (fromPartner p) o vs) m at = record { long = refl; kind-is = refl; partner-is = refl; place-is = refl }
+rowed (receive (fromAsking p v) o vs) m at = record { long = refl; kind-is = refl; partner-is = refl; place-is = refl }
 rowed (set v e) m at = record { long = refl; kind-is = refl; partner-is = refl; place-is = refl }
 rowed (raise zero) m at = record { long = refl; kind-is = refl; partner-is = refl; place-is = refl }
 rowed (raise (suc number)) m at = record { long = refl; kind-is = refl; partner-is = refl; place-is = refl }
@@ -166,7 +170,7 @@ module _ (n e m f : ℕ) (ordered : n ≤ e) (small : e ≤ 256) where
 
   pub noted-kept : (k p : ℕ) (t : List ℕ) → Noting k p → Kept n e m f t (noted k p t)
   unfolding noted
-  noted-kept k p t h = go (eqb k 2 || eqb k 255) h
+  noted-kept k p t h = go (eqb k 2 || (eqb k 18 || eqb k 255)) h
     where
       go : (b : Bool) → (b ≡ true → p < 64) → Kept n e m f t (cond b (store (1 ∷ []) (3328 + p) 0 t) t)
       go true g = flags-kept (3328 + p + 0) (3328 + p + 0 + 1) (store-but (1 ∷ []) (3328 + p) 0 t) (omega arith) (omega (arith, g refl))

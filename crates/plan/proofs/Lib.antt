@@ -13,6 +13,7 @@ pub mod Kept
 pub mod TableSpells
 pub mod ExpressionReads
 pub mod OwnReads
+pub mod ReplyReads
 pub mod Stores
 pub mod TableLong
 pub mod TupleReads

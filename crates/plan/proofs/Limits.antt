@@ -1,5 +1,5 @@
 -- What is accepted as a plan is a plan within the limits. Assumes nothing.
-use borrow.Author.Tests.{ltb-false, leb-false, eqb-true, eqb-false, not-true, lt-ltb, le-leb, eq-eqb, ne-eqb}
+use borrow.Author.Tests.{ltb-false, leb-false, eqb-true, eqb-false, not-true, not-false, lt-ltb, le-leb, eq-eqb, ne-eqb}
 use native.Mathlib.Omega.{arith}
 use native.Mathlib.Numerals.{sub-one}
 use mathlib.Core.Path.{_≡_, refl, sym, _∙_}
@@ -16,9 +16,9 @@ use Rattle.numbers.specs.declared.Number.the-variants.{Value, Short, Bad}
 use Rattle.numbers.proofs.Laws.{value-bounds}
 use Rattle.plan.specs.Agree.{agree}
 use Rattle.plan.specs.Found.{Found, found, foundNumber, numberIn, fieldIn, among}
-use Rattle.plan.specs.Read.{expressionCodeIn, leafIn, expressionIn, variablesIn, tupleIn, Head, head, exchangeIn, armIn, partnerIn, withExpressionIn, setIn, listIn, raiseIn, namable, faultNumberIn, isScopeCode, codeIn, partsIn, headIn, manyIn, Numbered, numberedIn, numberedScopeIn, wholeIn, readArm, readsIn, laterOf, readAct, startForm, correlationIn, versionIn, rootIn, readAny, readPlan}
+use Rattle.plan.specs.Read.{expressionCodeIn, leafIn, expressionIn, variablesIn, tupleIn, Head, head, exchangeIn, armIn, partnerIn, heldSendIn, askingReceiveIn, withExpressionIn, setIn, listIn, raiseIn, namable, faultNumberIn, isCode, isScopeCode, codeIn, partsIn, headIn, manyIn, Numbered, numberedIn, numberedScopeIn, wholeIn, readArm, readsIn, laterOf, readAct, startForm, correlationIn, versionIn, rootIn, readAny, readPlan}
 use Rattle.plan.specs.Spell.{spelling}
-use Rattle.plan.specs.Tree.{Exp, Own, send, receive, set, choose, repeat, sequence, flow, pick, scope, arm, kind, Act, act, Acts, more, Plan, size, count, isPick, isScope}
+use Rattle.plan.specs.Tree.{Exp, Own, toPartner, toHeld, fromPartner, fromAsking, send, receive, set, choose, repeat, sequence, flow, pick, scope, arm, kind, Act, act, Acts, more, Plan, size, count, isPick, isScope}
 use Rattle.plan.specs.Within.{expressionWithin, variablesWithin, exchangeWithin, from1, raiseWithin, numbersEach, numbersWithin, ownWithin, actWithin, actsWithin, ascending, planWithin}
 use Rattle.plan.proofs.Accepts.{both, among-append, reader, spelled-is-read}
 use Rattle.plan.proofs.Agreeing.{accepted-any, accepted-agrees, spelled-is-accepted}
@@ -26,7 +26,7 @@ use Rattle.plan.proofs.Finds.{Finds, finds-refused, finds-itself, finds
 use Rattle.plan.proofs.Stands.{neither, field-within, Plain, HeadIs, plain, numbered, arm-plain, head-is, Reads, many-count, NumberedStands, numbered-stands, act-stands, plan-stands}
 use Rattle.plan.proofs.Spelled.{accepted-is-spelled}
 use Rattle.plan.proofs.Bounds.{act-numbered}
-use Rattle.plan.proofs.ByKind.{raise-allowed}
+use Rattle.plan.proofs.ByKind.{raise-allowed, last-code}
 
 small-number : (s : List ℕ) (at : ℕ) (r : Number) → numberAt s at ≡ r → Finds (λ v next. v ≤ 4294967295) (foundNumber s at r)
 small-number s at Short e = finds-refused
@@ -94,6 +94,23 @@ variables-within vars once s (suc left) read at total h e =
     (λ v next k. finds-cond (once && among v read) (λ t. finds-refused)
     (λ t. variables-within vars once s left (read ++ (v ∷ [])) next total (variables-snoc vars once read v (k .1) t h) (simp length-append (omega arith))))
 
+-- a tuple: 1 to 4 variables; and an exchange with it
+abbrev FewWithin : (vars : ℕ) (once : Bool) → List ℕ → Type 0
+FewWithin vars once l = (1 ≤ length l) × (length l ≤ 4) × (variablesWithin vars once l ≡ true)
+
+tuple-within : (vars : ℕ) (once : Bool) (s : List ℕ) (at : ℕ) → Finds (λ l next. FewWithin vars once l) (tupleIn vars once s at)
+unfolding tupleIn variablesWithin
+tuple-within vars once s at =
+    finds-then (field-within s 1 5 at)
+    (λ total q c. finds-so (variables-within vars once s total [] q total refl (omega arith))
+    (λ l next x. (omega (arith, x .many), omega (arith, x .many), x .each)))
+
+exchange-allowed : (vars : ℕ) (once : Bool) {partner operation : ℕ} (l : List ℕ) → partner < 64 → operation < 64 → FewWithin vars once l
+    → exchangeWithin vars once partner operation l ≡ true
+unfolding exchangeWithin
+exchange-allowed vars once {partner} {operation} l h k x =
+    rw (lt-ltb partner 64 h, lt-ltb operation 64 k, le-leb 1 (length l) (x .0), le-leb (length l) 4 (x .1), x .2)
+
 -- Heads.
 
 -- Each reader of a head's later parts finds what P holds of, where P holds of all that the limits allow.
@@ -101,14 +118,11 @@ module _ (vars : ℕ) (s : List ℕ) (P : Head → Type 0) where
   exchange-within : (once : Bool) (partner : ℕ) (own : ℕ → List ℕ → Own) (within at : ℕ) → partner < 64
       → ((operation : ℕ) (variables : List ℕ) → exchangeWithin vars once partner operation variables ≡ true → P (head (own operation variables) within))
       → Finds (λ h next. P h) (exchangeIn vars once s own within at)
-  unfolding exchangeIn tupleIn exchangeWithin variablesWithin
+  unfolding exchangeIn
   exchange-within once partner own within at k f =
       finds-then (field-within s 0 64 at)
-      (λ operation p h. finds-then
-      (finds-then {Q = λ l next. (1 ≤ length l) × (length l ≤ 4) × (variablesWithin vars once l ≡ true)} (field-within s 1 5 p)
-      (λ total q c. finds-so (variables-within vars once s total [] q total refl (omega arith))
-      (λ l next x. (omega (arith, x .many), omega (arith, x .many), x .each))))
-      (λ l next x. finds-found (f operation l (rw (lt-ltb partner 64 k, lt-ltb operation 64 (h .1), le-leb 1 (length l) (x .0), le-leb (length l) 4 (x .1), x .2)))))
+      (λ operation p h. finds-then (tuple-within vars once s p)
+      (λ l next x. finds-found (f operation l (exchange-allowed vars once l k (h .1) x))))
 
   with-expression-within : (own : Exp → Own) (within at : ℕ) → ((e : Exp) → expressionWithin vars e 8 ≡ true → P (head (own e) within))
       → Finds (λ h next. P h) (withExpressionIn vars s own within at)
@@ -145,6 +159,25 @@ module _ (vars : ℕ) (cs s : List ℕ) (handler : Bool) where
   partner-within once own at f =
       finds-then (field-within s 0 64 at) (λ partner p h. exchange-within vars s (HeadWithin vars cs handler) once partner (own partner) 0 p (h .1) (f partner))
 
+  held-send-within : (at : ℕ) → Finds (λ h next. HeadWithin vars cs handler h) (heldSendIn vars s at)
+  unfolding heldSendIn ownWithin
+  held-send-within at =
+      finds-then (field-within s 0 vars at)
+      (λ v p h. finds-then (field-within s 0 64 p)
+      (λ operation q k. finds-then (tuple-within vars false s q)
+      (λ l r x. finds-then (field-within s 0 64 r)
+      (λ reply next m. finds-found (rw (lt-ltb v vars (h .1), exchange-allowed vars false l (m .1) (k .1) x))))))
+
+  asking-receive-within : (at : ℕ) → Finds (λ h next. HeadWithin vars cs handler h) (askingReceiveIn vars cs s at)
+  unfolding askingReceiveIn ownWithin
+  asking-receive-within at =
+      finds-then (field-within s 0 64 at)
+      (λ partner p h. finds-then (field-within s 0 64 p)
+      (λ operation q k. finds-then (tuple-within vars true s q)
+      (λ l r x. finds-then (field-within s 0 vars r)
+      (λ v next m. finds-cond (among v cs || among v l) (λ t. finds-refused)
+      (λ t. finds-found (rw (exchange-allowed vars true l (h .1) (k .1) x, lt-ltb v vars (m .1), t)))))))
+
   set-within : (at : ℕ) → Finds (λ h next. HeadWithin vars cs handler h) (setIn vars cs s at)
   unfolding setIn ownWithin
   set-within at =
@@ -157,12 +190,12 @@ module _ (vars : ℕ) (cs s : List ℕ) (handler : Bool) where
   raise-within at = finds-then (field-within s 16 256 at) (λ n p h. finds-found (raise-allowed n (h .0) (h .1)))
 
   -- the table of codes
-  parts-within : (code at : ℕ) → code ≤ 14 → (handler && isScopeCode code) ≡ false → Finds (λ h next. HeadWithin vars cs handler h) (partsIn vars cs s code at)
+  parts-within : (code at : ℕ) → isCode code ≡ true → (handler && isScopeCode code) ≡ false → Finds (λ h next. HeadWithin vars cs handler h) (partsIn vars cs s code at)
   unfolding partsIn ownWithin raiseWithin numbersWithin
   parts-within code at m k =
       finds-code code 0 (omega arith) (λ e. finds-found refl)
-      (λ l. finds-code code 1 l (λ e. partner-within false send at (λ partner operation variables x. x))
-      (λ l. finds-code code 2 l (λ e. partner-within true receive at (λ partner operation variables x. x))
+      (λ l. finds-code code 1 l (λ e. partner-within false (λ p. send (toPartner p)) at (λ partner operation variables x. x))
+      (λ l. finds-code code 2 l (λ e. partner-within true (λ p. receive (fromPartner p)) at (λ partner operation variables x. x))
       (λ l. finds-code code 3 l (λ e. set-within at)
       (λ l. finds-code code 4 l (λ e. finds-found refl)
       (λ l. finds-code code 5 l (λ e. finds-found refl)
@@ -174,16 +207,17 @@ module _ (vars : ℕ) (cs s : List ℕ) (handler : Bool) where
       (λ l. finds-code code 11 l (λ e. finds-found (rw (sym (and-true handler) ∙ rw e at k)))
       (λ l. finds-code code 12 l (λ e. finds-found (rw (sym (and-true handler) ∙ rw e at k)))
       (λ l. finds-code code 13 l (λ e. raise-within at)
-      (λ l. let e : code ≡ 14 = omega arith in finds-found (rw (sym (and-true handler) ∙ rw e at k))))))))))))))))
+      (λ l. finds-code code 14 l (λ e. finds-found (rw (sym (and-true handler) ∙ rw e at k)))
+      (λ l. finds-cond (eqb code 17) (λ t. held-send-within at) (λ t. asking-receive-within at))))))))))))))))
 
   pub head-within : (depth n at : ℕ) → Finds (λ h next. HeadWithin vars cs handler h) (headIn vars cs s handler depth n at)
   unfolding headIn codeIn
   head-within depth n at =
       finds-then
-      (finds-then {Q = λ code next. (code ≤ 14) × ((handler && isScopeCode code) ≡ false)} (finds-itself (numberIn s at))
-      (λ code next h. finds-cond (ltb 14 code) (λ t. finds-refused)
+      (finds-then {Q = λ code next. (isCode code ≡ true) × ((handler && isScopeCode code) ≡ false)} (finds-itself (numberIn s at))
+      (λ code next h. finds-cond (not (isCode code)) (λ t. finds-refused)
       (λ t. finds-cond (handler && isScopeCode code) (λ u. finds-refused)
-      (λ u. finds-cond (eqb depth 0 || leb 256 n) (λ w. finds-refused) (λ w. finds-found (ltb-false 14 code t, u))))))
+      (λ u. finds-cond (eqb depth 0 || leb 256 n) (λ w. finds-refused) (λ w. finds-found (not-false (isCode code) t, u))))))
       (λ code next h. parts-within code next (h .0) (h .1))
 
 -- The numbers of fault parts.

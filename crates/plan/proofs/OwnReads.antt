@@ -1,6 +1,6 @@
 -- The returns of the functions that read what an activity or arm says of itself. Assumes nothing.
 use mathlib.Core.Path.{_≡_, refl, sym, _∙_}
-use mathlib.Core.Bool.{Bool, true, false, cond, true≢false, _&&_, _||_}
+use mathlib.Core.Bool.{Bool, true, false, cond, not, true≢false, _&&_, _||_}
 use mathlib.Core.List.{List, [], _∷_}
 use Prim.Native.Nat.{ℕ, zero, suc, _+_, _<_, _≤_}
 use native.Mathlib.Nat.{add-zero}
@@ -16,8 +16,8 @@ use Rattle.plan.specs.declared.Own as code
 use Rattle.plan.specs.Answers.{fieldOf, tupleOf, NodesRead, messageOwn, expressionOwn, listOwn, ownAnswer, OwnPut, OwnRead}
 use Rattle.plan.specs.Fits.{NumberFits, FieldFits}
 use Rattle.plan.specs.Found.{Found, refused, found, andThen, numberIn, fieldIn, among}
-use Rattle.plan.specs.Nodes.{Base, Room, IsMessage, sends, receives, isArm, IsExpression, sets, chooses, repeats, IsList, isSequence, isFlow, isPick, nodeHeadIn}
-use Rattle.plan.specs.Read.{Head, head, expressionIn, tupleIn, exchangeIn, armIn, partnerIn, withExpressionIn, setIn, listIn, raiseIn, isScopeCode, codeIn, partsIn, headIn}
+use Rattle.plan.specs.Nodes.{Base, Room, IsMessage, sends, receives, holds, asks, isArm, IsExpression, sets, chooses, repeats, IsList, isSequence, isFlow, isPick, nodeHeadIn}
+use Rattle.plan.specs.Read.{Head, head, expressionIn, tupleIn, exchangeIn, armIn, partnerIn, heldSendIn, askingReceiveIn, withExpressionIn, setIn, listIn, raiseIn, isCode, isScopeCode, codeIn, partsIn, headIn}
 use Rattle.plan.specs.Store.{store, padded, chosen}
 use Rattle.plan.specs.Table.{row, rowOf, putRow, putOwn, putOwnNodes, putNodes, ownNodes, nodesOf}
 use Rattle.plan.specs.Tree.{Exp, Own, empty, raise, leave, scope, kind}
@@ -39,28 +39,27 @@ module _ {r : Field} (s : List ℕ) (handler : Bool) (depth n at : ℕ) (e : r �
   unfolding codeIn
   activity-code-handed o = handed (numberIn s at) _ e o
 
-  module _ {value next : ℕ} (o : r ≡ Got value next) where
-    pub code-unknown : 14 < value → Field.Refused 4 at ≡ fieldOf (codeIn s handler depth n at)
+  module _ {value next : ℕ} (o : r ≡ Got value next) {w : Bool} (k : w ≡ not (isCode value)) where
+    pub code-unknown : w ≡ true → Field.Refused 4 at ≡ fieldOf (codeIn s handler depth n at)
     unfolding codeIn fieldOf
-    code-unknown h = rw (field-got (numberIn s at) e o, lt-ltb _ _ h)
+    code-unknown h = rw (field-got (numberIn s at) e o, sym k ∙ h)
 
-    module _ (h : value ≤ 14) {x : Bool} (i : x ≡ (handler && isScopeCode value)) where
+    module _ (h : w ≡ false) {x : Bool} (i : x ≡ (handler && isScopeCode value)) where
       pub code-misplaced : x ≡ true → Field.Refused 8 at ≡ fieldOf (codeIn s handler depth n at)
       unfolding codeIn fieldOf
-      code-misplaced t = rw (field-got (numberIn s at) e o, le-ltb _ _ h, sym i ∙ t)
+      code-misplaced t = rw (field-got (numberIn s at) e o, sym k ∙ h, sym i ∙ t)
 
       module _ (t : x ≡ false) {y : Bool} (j : y ≡ (eqb depth 0 || leb 256 n)) where
         pub code-overrun : y ≡ true → Field.Refused 6 at ≡ fieldOf (codeIn s handler depth n at)
         unfolding codeIn fieldOf
-        code-overrun u = rw (field-got (numberIn s at) e o, le-ltb _ _ h, sym i ∙ t, sym j ∙ u)
+        code-overrun u = rw (field-got (numberIn s at) e o, sym k ∙ h, sym i ∙ t, sym j ∙ u)
 
         pub code-good : y ≡ false → Got value next ≡ fieldOf (codeIn s handler depth n at)
         unfolding codeIn fieldOf
-        code-good u = rw (field-got (numberIn s at) e o, le-ltb _ _ h, sym i ∙ t, sym j ∙ u)
+        code-good u = rw (field-got (numberIn s at) e o, sym k ∙ h, sym i ∙ t, sym j ∙ u)
 
 -- what holds of a code that is read
 pub record Coded (depth n code : ℕ) : Type 0 where
-  pub known : code ≤ 14
   pub deep : depth ≡ 0 → ⊥
   pub numbered : n < 256
 
@@ -71,10 +70,10 @@ pub code-numbered : (s : List ℕ) (handler : Bool) (depth n at : ℕ) → Finds
 unfolding codeIn
 code-numbered s handler depth n at =
     finds-then (finds-itself (numberIn s at))
-    (λ code next h. finds-cond (ltb 14 code) (λ t. finds-refused)
+    (λ code next h. finds-cond (not (isCode code)) (λ t. finds-refused)
     (λ t. finds-cond (handler && isScopeCode code) (λ u. finds-refused)
     (λ u. finds-cond (eqb depth 0 || leb 256 n) (λ w. finds-refused)
-    (λ w. finds-found (record { known = ltb-false 14 code t; deep = none-over depth n w .0; numbered = none-over depth n w .1 })))))
+    (λ w. finds-found (record { deep = none-over depth n w .0; numbered = none-over depth n w .1 })))))
 
 -- what an activity says of itself comes to, where what is found is known
 module _ (g : Found Head) (at n m : ℕ) (t u : List ℕ) where
@@ -88,7 +87,7 @@ module _ (g : Found Head) (at n m : ℕ) (t u : List ℕ) where
   own-found own e i c p = rw (e, i, c) (record { is = refl; put = p })
 
 -- an activity whose own numbers are no expression, where its row is written
-own-row : (g : Found Head) (at n m : ℕ) (t u : List ℕ) (own : Own) {k within next : ℕ} → g ≡ found (head own within) next → k ≡ kind own
+pub own-row : (g : Found Head) (at n m : ℕ) (t u : List ℕ) (own : Own) {k within next : ℕ} → g ≡ found (head own within) next → k ≡ kind own
     → ownNodes own ≡ 0 → putOwnNodes own m t ≡ t → u ≡ putRow n (rowOf own m at) t → OwnRead g at n m (code.Own.Read k within next m) t u
 unfolding putOwn
 own-row g at n m t u own e i z p w = own-found g at n m t u own e i (rw z (sym (add-zero m))) (rw p w)
@@ -191,6 +190,8 @@ message-row : (g : Found Head) (at n m : ℕ) (t u : List ℕ) (p o : ℕ) (vs :
 unfolding messageOwn kind ownNodes putOwnNodes rowOf
 message-row g at n m t u p o vs sends e w = own-row g at n m t u (messageOwn 1 p o vs) e refl refl refl w
 message-row g at n m t u p o vs receives e w = own-row g at n m t u (messageOwn 2 p o vs) e refl refl refl w
+message-row g at n m t u p o vs holds e w = own-row g at n m t u (messageOwn 17 p o vs) e refl refl refl w
+message-row g at n m t u p o vs asks e w = own-row g at n m t u (messageOwn 18 p o vs) e refl refl refl w
 message-row g at n m t u p o vs isArm e w = own-row g at n m t u (messageOwn 255 p o vs) e refl refl refl w
 
 -- `expression_own`
@@ -406,13 +407,24 @@ module _ (vars : ℕ) (cs s : List ℕ) (k at place n m : ℕ) (t u : List ℕ) 
   unfolding partsIn listOwn
   parts-pick h a = rw h a
 
--- a code that is none of these is that of a scope with fault parts by number
+  pub parts-held : k ≡ 17 → OwnRead (heldSendIn vars s at) place n m r t u → OwnRead (partsIn vars cs s k at) place n m r t u
+  unfolding partsIn
+  parts-held h a = rw h a
+
+-- nothing is written of a scope with fault parts by number
 module _ (vars : ℕ) (cs s : List ℕ) (k at place n m : ℕ) (t : List ℕ) where
-  pub parts-numbered : (k ≡ 0 → ⊥) → 3 ≤ k → (k ≡ 3 → ⊥) → (k ≡ 4 → ⊥) → (k ≡ 5 → ⊥) → (k ≡ 6 → ⊥) → (k ≡ 7 → ⊥) → (k ≡ 8 → ⊥) → (k ≡ 9 → ⊥) → (k ≡ 10 → ⊥)
-      → (k ≡ 11 → ⊥) → (k ≡ 12 → ⊥) → (k ≡ 13 → ⊥) → OwnRead (partsIn vars cs s k at) place n m (code.Own.Numbered at) t t
+  pub parts-numbered : k ≡ 14 → OwnRead (partsIn vars cs s k at) place n m (code.Own.Numbered at) t t
   unfolding partsIn ownAnswer OwnPut
-  parts-numbered n0 l n3 n4 n5 n6 n7 n8 n9 n10 n11 n12 n13 =
+  parts-numbered h = rw h (record { is = refl; put = refl })
+
+-- a code that is none of these is that of a receive that stores the reply partner
+module _ (vars : ℕ) (cs s : List ℕ) (k at place n m : ℕ) (t u : List ℕ) {r : code.Own} where
+  pub parts-asking : (k ≡ 0 → ⊥) → 3 ≤ k → (k ≡ 3 → ⊥) → (k ≡ 4 → ⊥) → (k ≡ 5 → ⊥) → (k ≡ 6 → ⊥) → (k ≡ 7 → ⊥) → (k ≡ 8 → ⊥) → (k ≡ 9 → ⊥) → (k ≡ 10 → ⊥)
+      → (k ≡ 11 → ⊥) → (k ≡ 12 → ⊥) → (k ≡ 13 → ⊥) → (k ≡ 14 → ⊥) → (k ≡ 17 → ⊥) → OwnRead (askingReceiveIn vars cs s at) place n m r t u
+      → OwnRead (partsIn vars cs s k at) place n m r t u
+  unfolding partsIn
+  parts-asking n0 l n3 n4 n5 n6 n7 n8 n9 n10 n11 n12 n13 n14 n17 a =
       let n1 : k ≡ 1 → ⊥ = λ e. omega (arith, l, e) in
       let n2 : k ≡ 2 → ⊥ = λ e. omega (arith, l, e) in
-      simp (ne-eqb _ _ n0, ne-eqb _ _ n1, ne-eqb _ _ n2, ne-eqb _ _ n3, ne-eqb _ _ n4, ne-eqb _ _ n5, ne-eqb _ _ n6, ne-eqb _ _ n7, ne-eqb _ _ n8, ne-eqb _ _ n9, ne-eqb _ _ n10, ne-eqb _ _ n11, ne-eqb _ _ n12, ne-eqb _ _ n13)
-      (record { is = refl; put = refl })
+      simp (ne-eqb _ _ n0, ne-eqb _ _ n1, ne-eqb _ _ n2, ne-eqb _ _ n3, ne-eqb _ _ n4, ne-eqb _ _ n5, ne-eqb _ _ n6, ne-eqb _ _ n7, ne-eqb _ _ n8, ne-eqb _ _ n9, ne-eqb _ _ n10, ne-eqb _ _ n11, ne-eqb _ _ n12, ne-eqb _ _ n13, ne-eqb _ _ n14, ne-eqb _ _ n17)
+      a

@@ -17,7 +17,7 @@ use Rattle.plan.specs.Spell.{spell, ownNumbers, gapsOf, gap, later, pass
 use Rattle.plan.specs.Spells.{Row, Spells, SpellsAll, variablesOf}
 use Rattle.plan.specs.Table.{rowOf, nodes, ownNodes, bodyPlace, tableOver}
 use Rattle.plan.specs.Tree as tree
-use Rattle.plan.specs.Tree.{Own, empty, send, receive, set, raise, leave, choose, repeat, sequence, flow, pick, scope, arm, kind, numbersOf, Act, act, Acts, none, more, Plan, size, sizes, count}
+use Rattle.plan.specs.Tree.{Own, empty, toPartner, toHeld, fromPartner, fromAsking, send, receive, set, raise, leave, choose, repeat, sequence, flow, pick, scope, arm, kind, partnerFrom, numbersOf, Act, act, Acts, none, more, Plan, size, sizes, count}
 use Rattle.plan.specs.Within.{exchangeWithin, ownWithin, actWithin, actsWithin, planWithin}
 use Rattle.plan.proofs.Accepts.{both}
 use Rattle.plan.proofs.Hears as hears
@@ -41,7 +41,7 @@ pub record Exchanged (p o : ℕ) (vs : List ℕ) : Type 0 where
 unfoldable pub AsksOwn : Own → Type 0
 AsksOwn empty = Unit
 AsksOwn (send p o vs) = Unit
-AsksOwn (receive p o vs) = Exchanged p o vs
+AsksOwn (receive f o vs) = Exchanged (partnerFrom f) o vs
 AsksOwn (set v e) = Unit
 AsksOwn (raise number) = Unit
 AsksOwn leave = Unit
@@ -71,7 +71,9 @@ own-asks : (vars : ℕ) (cs : List ℕ) (handler arms : Bool) (own : Own) (withi
 unfolding ownWithin AsksOwn
 own-asks vars cs handler arms empty w h = tt
 own-asks vars cs handler arms (send p o vs) w h = tt
-own-asks vars cs handler arms (receive p o vs) w h = both (not arms) _ h (λ a k. both (eqb w 0) _ k (λ b l. exchanged vars true p o vs l))
+own-asks vars cs handler arms (receive (fromPartner p) o vs) w h = both (not arms) _ h (λ a k. both (eqb w 0) _ k (λ b l. exchanged vars true p o vs l))
+own-asks vars cs handler arms (receive (fromAsking p v) o vs) w h =
+    both (not arms) _ h (λ a k. both (eqb w 0) _ k (λ b l. both (exchangeWithin vars true p o vs) _ l (λ c x. exchanged vars true p o vs c)))
 own-asks vars cs handler arms (set v e) w h = tt
 own-asks vars cs handler arms (raise number) w h = tt
 own-asks vars cs handler arms leave w h = tt
@@ -109,7 +111,7 @@ module _ (c : Places) where
   unfolding askedOwn AsksOwn
   fit-own empty at h x = hears.none
   fit-own (send p o vs) at h x = hears.none
-  fit-own (receive p o vs) at h x = fit-one p o (at + c .passed (2 ∷ p ∷ o ∷ [])) vs (omega arith) x
+  fit-own (receive f o vs) at h x = fit-one (partnerFrom f) o (at + c .passed (kind (receive f o vs) ∷ partnerFrom f ∷ o ∷ [])) vs (omega arith) x
   fit-own (set v e) at h x = hears.none
   fit-own (raise number) at h x = hears.none
   fit-own leave at h x = hears.none
@@ -157,9 +159,9 @@ module _ (t : List ℕ) (n : ℕ) where
   unfolding rowAsked
   row-some s {k} e h i a b c d = let z : getD t (n * 13 + 0) 0 ≡ k = rw (add-zero (n * 13)) e in rw (z, h, ne-eqb s 0 i, a, b, c, d)
 
-three-bytes : (p o : ℕ) → p < 64 → o < 64 → length (spell (2 ∷ p ∷ o ∷ [])) ≡ 3
+three-bytes : (k p o : ℕ) → k < 128 → p < 64 → o < 64 → length (spell (k ∷ p ∷ o ∷ [])) ≡ 3
 unfolding spell
-three-bytes p o h l = rw (one-byte 2 (omega arith), one-byte p (omega arith), one-byte o (omega arith))
+three-bytes k p o j h l = rw (one-byte k j, one-byte p (omega arith), one-byte o (omega arith))
 
 two-bytes : (p o : ℕ) → p < 64 → o < 64 → length (spell (p ∷ o ∷ [])) ≡ 2
 unfolding spell
@@ -168,9 +170,12 @@ two-bytes p o h l = rw (one-byte p (omega arith), one-byte o (omega arith))
 row-asked : (own : Own) (at n m e s : ℕ) (t : List ℕ) → AsksOwn own → Row own at n m e s t → rowAsked t n ≡ askedOwn inBytes own at
 unfolding askedOwn inBytes AsksOwn kind rowOf variablesOf aheadOf
 row-asked empty at n m e s t x r = row-none t n (r .kind) refl
-row-asked (send p o vs) at n m e s t x r = row-none t n (r .kind) refl
-row-asked (receive p o vs) at n m e s t x r =
-    rw (three-bytes p o (x .partner) (x .operation)) (row-some t n 3 (r .kind) refl (λ z. omega arith) (r .partner) (r .operation) (r .count) (r .place))
+row-asked (send (toPartner p) o vs) at n m e s t x r = row-none t n (r .kind) refl
+row-asked (send (toHeld v q) o vs) at n m e s t x r = row-none t n (r .kind) refl
+row-asked (receive (fromPartner p) o vs) at n m e s t x r =
+    rw (three-bytes 2 p o (omega arith) (x .partner) (x .operation)) (row-some t n 3 (r .kind) refl (λ z. omega arith) (r .partner) (r .operation) (r .count) (r .place))
+row-asked (receive (fromAsking p v) o vs) at n m e s t x r =
+    rw (three-bytes 18 p o (omega arith) (x .partner) (x .operation)) (row-some t n 3 (r .kind) refl (λ z. omega arith) (r .partner) (r .operation) (r .count) (r .place))
 row-asked (set v f) at n m e s t x r = row-none t n (r .kind) refl
 row-asked (raise zero) at n m e s t x r = row-none t n (r .kind) refl
 row-asked (raise (suc number)) at n m e s t x r = row-none t n (r .kind) refl

@@ -1,7 +1,7 @@
 -- Whatever is read of a plan stands there in its spelling. Assumes nothing.
 use native.Mathlib.Omega.{arith}
 use native.Mathlib.Decide.{decLt}
-use borrow.Author.Tests.{ltb-true, ltb-false, leb-false, eqb-true}
+use borrow.Author.Tests.{ltb-true, ltb-false, leb-false, eqb-true, not-false}
 use mathlib.Core.Path.{_≡_, refl, sym, ap, _∙_}
 use mathlib.Core.Bool.{Bool, true, false, cond, not, _&&_, _||_, false≢true}
 use mathlib.Core.List.{List, [], _∷_, _++_, append-assoc, append-nil, map}
@@ -15,11 +15,11 @@ use Rattle.numbers.specs.declared.Number.{Number}
 use Rattle.numbers.specs.declared.Number.the-variants.{Value, Short, Bad}
 use Rattle.numbers.proofs.Laws.{read-ends, read-is-shortest, value-bounds, shortest-long}
 use Rattle.plan.specs.Found.{Found, foundNumber, numberIn, fieldIn, among}
-use Rattle.plan.specs.Tree.{Exp, constant, variable, binary, Own, empty, send, receive, set, raise, leave, choose, repeat, sequence, flow, pick, scope, arm, kind, numbersOf, Act, act, Acts, none, more, Plan, size, count, isPick}
+use Rattle.plan.specs.Tree.{Exp, constant, variable, binary, Own, empty, toPartner, toHeld, fromPartner, fromAsking, send, receive, set, raise, leave, choose, repeat, sequence, flow, pick, scope, arm, kind, numbersOf, Act, act, Acts, none, more, Plan, size, count, isPick}
 use Rattle.plan.specs.Spell.{spell, operationCode, expressionNumbers, exchangeNumbers, ownNumbers, gapsOf, actNumbers, actsNumbers, planNumbers}
-use Rattle.plan.specs.Read.{expressionCodeIn, operationOf, leafIn, expressionIn, variablesIn, tupleIn, Head, head, numberedHead, exchangeIn, armIn, partnerIn, withExpressionIn, setIn, listIn, raiseIn, namable, faultNumberIn, isScopeCode, codeIn, partsIn, headIn, manyIn, Numbered, numberedIn, numberedScopeIn, wholeIn, readArm, readsIn, laterOf, readAct, startForm, correlationIn, versionIn, rootIn, readAny}
+use Rattle.plan.specs.Read.{expressionCodeIn, operationOf, leafIn, expressionIn, variablesIn, tupleIn, Head, head, numberedHead, exchangeIn, armIn, partnerIn, heldSendIn, askingReceiveIn, withExpressionIn, setIn, listIn, raiseIn, namable, faultNumberIn, isCode, isScopeCode, codeIn, partsIn, headIn, manyIn, Numbered, numberedIn, numberedScopeIn, wholeIn, readArm, readsIn, laterOf, readAct, startForm, correlationIn, versionIn, rootIn, readAny}
 use Rattle.plan.proofs.Finds.{Finds, finds-refused, finds-itself, finds-found, finds-cond, finds-code, finds-then, finds-both, finds-so, cond-case, code-case}
-use Rattle.plan.proofs.ByKind.{raise-numbers}
+use Rattle.plan.proofs.ByKind.{raise-numbers, last-code}
 
 -- From `at` to `next` the numbers ns stand in their spelling, each in the shortest form.
 pub record Stands (s : List ℕ) (at : ℕ) (ns : List ℕ) (next : ℕ) : Type 0 where
@@ -72,8 +72,10 @@ expression-some (binary operation left right) = omega arith
 pub own-some : (own : Own) (within : ℕ) → 0 < length (ownNumbers own within)
 unfolding ownNumbers exchangeNumbers
 own-some empty within = omega arith
-own-some (send partner operation variables) within = omega arith
-own-some (receive partner operation variables) within = omega arith
+own-some (send (toPartner partner) operation variables) within = omega arith
+own-some (send (toHeld v reply) operation variables) within = omega arith
+own-some (receive (fromPartner partner) operation variables) within = omega arith
+own-some (receive (fromAsking partner v) operation variables) within = omega arith
 own-some (set v e) within = omega arith
 own-some (raise zero) within = omega arith
 own-some (raise (suc n)) within = omega arith
@@ -265,13 +267,32 @@ module _ (vars : ℕ) (cs s : List ℕ) {start at code : ℕ} (a : Stands s star
       finds-then (finds-both (field-stands s 16 256 at) (field-within s 16 256 at))
       (λ n p h. finds-found (rw (raise-numbers n 0 (h .1 .0)) (stands-code 13 e a (h .0))))
 
+  pub held-send-stands : code ≡ 17 → Standing s start headNumbers (heldSendIn vars s at)
+  unfolding heldSendIn ownNumbers exchangeNumbers
+  held-send-stands e =
+      finds-then (field-stands s 0 vars at)
+      (λ v p h. finds-then (field-stands s 0 64 p)
+      (λ operation q k. finds-then (tuple-stands vars false s q)
+      (λ variables r b. finds-then (field-stands s 0 64 r)
+      (λ reply next c. finds-found (stands-code 17 e a (stands-append h (stands-append k (stands-append b c))))))))
+
+  pub asking-receive-stands : code ≡ 18 → Standing s start headNumbers (askingReceiveIn vars cs s at)
+  unfolding askingReceiveIn ownNumbers exchangeNumbers
+  asking-receive-stands e =
+      finds-then (field-stands s 0 64 at)
+      (λ partner p h. finds-then (field-stands s 0 64 p)
+      (λ operation q k. finds-then (tuple-stands vars true s q)
+      (λ variables r b. finds-then (field-stands s 0 vars r)
+      (λ v next c. finds-cond (among v cs || among v variables) (λ t. finds-refused)
+      (λ t. finds-found (stands-code 18 e a (stands-append h (stands-append k (stands-append b c)))))))))
+
   -- the table of codes
-  pub parts-stand : code ≤ 14 → Standing s start headNumbers (partsIn vars cs s code at)
+  pub parts-stand : isCode code ≡ true → Standing s start headNumbers (partsIn vars cs s code at)
   unfolding partsIn ownNumbers
   parts-stand m =
       finds-code code 0 (omega arith) (λ e. finds-found (rw e at a))
-      (λ l. finds-code code 1 l (λ e. partner-stands false send (λ partner operation variables. rw e))
-      (λ l. finds-code code 2 l (λ e. partner-stands true receive (λ partner operation variables. rw e))
+      (λ l. finds-code code 1 l (λ e. partner-stands false (λ p. send (toPartner p)) (λ partner operation variables. rw e))
+      (λ l. finds-code code 2 l (λ e. partner-stands true (λ p. receive (fromPartner p)) (λ partner operation variables. rw e))
       (λ l. finds-code code 3 l set-stands
       (λ l. finds-code code 4 l (λ e. finds-found (rw e at a))
       (λ l. finds-code code 5 l (λ e. finds-found (rw e at a))
@@ -283,16 +304,18 @@ module _ (vars : ℕ) (cs s : List ℕ) {start at code : ℕ} (a : Stands s star
       (λ l. finds-code code 11 l (λ e. finds-found (rw e at a))
       (λ l. finds-code code 12 l (λ e. finds-found (rw e at a))
       (λ l. finds-code code 13 l raise-stands
-      (λ l. let e : code ≡ 14 = omega arith in finds-found (rw e at a)))))))))))))))
+      (λ l. finds-code code 14 l (λ e. finds-found (rw e at a))
+      (λ l. finds-cond (eqb code 17) (λ t. held-send-stands (eqb-true code 17 t))
+      (λ t. asking-receive-stands (last-code code m l t)))))))))))))))))
 
 pub head-stands : (vars : ℕ) (cs s : List ℕ) (handler : Bool) (depth n at : ℕ) → Standing s at headNumbers (headIn vars cs s handler depth n at)
 unfolding headIn codeIn
 head-stands vars cs s handler depth n at =
     finds-then
-    (finds-then {Q = λ code next. Stands s at (code ∷ []) next × (code ≤ 14)} (number-stands s at)
-    (λ code next h. finds-cond (ltb 14 code) (λ t. finds-refused)
+    (finds-then {Q = λ code next. Stands s at (code ∷ []) next × (isCode code ≡ true)} (number-stands s at)
+    (λ code next h. finds-cond (not (isCode code)) (λ t. finds-refused)
     (λ t. finds-cond (handler && isScopeCode code) (λ u. finds-refused)
-    (λ u. finds-cond (eqb depth 0 || leb 256 n) (λ w. finds-refused) (λ w. finds-found (h, ltb-false 14 code t))))))
+    (λ u. finds-cond (eqb depth 0 || leb 256 n) (λ w. finds-refused) (λ w. finds-found (h, not-false (isCode code) t))))))
     (λ code next h. parts-stand vars cs s (h .0) (h .1))
 
 -- What a head may be: one that has no fault parts by number, and says how many stand within it; or that of a scope which has some.
@@ -319,6 +342,23 @@ module _ (vars : ℕ) (s : List ℕ) where
       → ((partner operation : ℕ) (variables : List ℕ) → numbersOf (own partner operation variables) ≡ []) → Finds (λ h next. Plain h) (partnerIn vars once s own at)
   unfolding partnerIn
   partner-plain once own at e = finds-then (finds-itself (fieldIn s 0 64 at)) (λ partner p h. exchange-plain once (own partner) 0 p (e partner))
+
+  held-send-plain : (at : ℕ) → Finds (λ h next. Plain h) (heldSendIn vars s at)
+  unfolding heldSendIn
+  held-send-plain at =
+      finds-then (finds-itself (fieldIn s 0 vars at))
+      (λ v p h. finds-then (finds-itself (fieldIn s 0 64 p))
+      (λ operation q k. finds-then (finds-itself (tupleIn vars false s q))
+      (λ l r m. finds-then (finds-itself (fieldIn s 0 64 r)) (λ reply next c. finds-found (plainly _ _ refl)))))
+
+  asking-receive-plain : (cs : List ℕ) (at : ℕ) → Finds (λ h next. Plain h) (askingReceiveIn vars cs s at)
+  unfolding askingReceiveIn
+  asking-receive-plain cs at =
+      finds-then (finds-itself (fieldIn s 0 64 at))
+      (λ partner p h. finds-then (finds-itself (fieldIn s 0 64 p))
+      (λ operation q k. finds-then (finds-itself (tupleIn vars true s q))
+      (λ l r m. finds-then (finds-itself (fieldIn s 0 vars r))
+      (λ v next c. finds-cond (among v cs || among v l) (λ t. finds-refused) (λ t. finds-found (plainly _ _ refl))))))
 
   with-expression-plain : (own : Exp → Own) (within at : ℕ) → ((e : Exp) → numbersOf (own e) ≡ []) → Finds (λ h next. Plain h) (withExpressionIn vars s own within at)
   unfolding withExpressionIn
@@ -351,8 +391,8 @@ pub parts-are : (vars : ℕ) (cs s : List ℕ) (code at : ℕ) → Finds (λ h n
 unfolding partsIn
 parts-are vars cs s code at =
     finds-cond (eqb code 0) (λ e. finds-found (plain (plainly _ _ refl)))
-    (λ l. finds-cond (eqb code 1) (λ e. so-plain (partner-plain vars s false send at (λ partner operation variables. refl)))
-    (λ l. finds-cond (eqb code 2) (λ e. so-plain (partner-plain vars s true receive at (λ partner operation variables. refl)))
+    (λ l. finds-cond (eqb code 1) (λ e. so-plain (partner-plain vars s false (λ p. send (toPartner p)) at (λ partner operation variables. refl)))
+    (λ l. finds-cond (eqb code 2) (λ e. so-plain (partner-plain vars s true (λ p. receive (fromPartner p)) at (λ partner operation variables. refl)))
     (λ l. finds-cond (eqb code 3) (λ e. so-plain (set-plain vars s cs at))
     (λ l. finds-cond (eqb code 4) (λ e. finds-found (plain (plainly _ _ refl)))
     (λ l. finds-cond (eqb code 5) (λ e. finds-found (plain (plainly _ _ refl)))
@@ -364,7 +404,9 @@ parts-are vars cs s code at =
     (λ l. finds-cond (eqb code 11) (λ e. finds-found (plain (plainly _ _ refl)))
     (λ l. finds-cond (eqb code 12) (λ e. finds-found (plain (plainly _ _ refl)))
     (λ l. finds-cond (eqb code 13) (λ e. so-plain (raise-plain vars s at))
-    (λ l. finds-found numbered))))))))))))))
+    (λ l. finds-cond (eqb code 14) (λ e. finds-found numbered)
+    (λ l. finds-cond (eqb code 17) (λ e. so-plain (held-send-plain vars s at))
+    (λ l. so-plain (asking-receive-plain vars s cs at)))))))))))))))))
 
 pub head-is : (vars : ℕ) (cs s : List ℕ) (handler : Bool) (depth n at : ℕ) → Finds (λ h next. HeadIs h) (headIn vars cs s handler depth n at)
 unfolding headIn

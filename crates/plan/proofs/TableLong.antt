@@ -11,9 +11,9 @@ use Rattle.plan.specs.Table.{rowOf, noted, putRow, putNode, putNodes, pu
 use Rattle.plan.specs.Tree.{Exp, constant, variable, binary, Own, empty, send, receive, set, raise, leave, choose, repeat, sequence, flow, pick, scope, arm, numbersOf, Act, act, Acts, none, more, size}
 use Rattle.plan.proofs.Stores.{length-store}
 
-length-noted : (k p : ℕ) (t : List ℕ) → length (noted k p t) ≡ length t
+pub length-noted : (k p : ℕ) (t : List ℕ) → length (noted k p t) ≡ length t
 unfolding noted
-length-noted k p t = by-test (eqb k 2 || eqb k 255)
+length-noted k p t = by-test (eqb k 2 || (eqb k 18 || eqb k 255))
   where
     by-test : (b : Bool) → length (cond b (store (1 ∷ []) (3328 + p) 0 t) t) ≡ length t
     by-test true = length-store (1 ∷ []) (3328 + p) 0 t

@@ -16,10 +16,10 @@ use Rattle.plan.specs.Answers.{OwnRead, outOf, Put, ActRead, outAll, Put
 use Rattle.plan.specs.Fits.{weigh, weighScope}
 use Rattle.plan.specs.Found.{Found, refused, found, andThen, fieldIn, among}
 use Rattle.plan.specs.Nodes.{Base, nodeHeadIn, nodeIn}
-use Rattle.plan.specs.Read.{expressionIn, tupleIn, Head, numberedHead, exchangeIn, armIn, partnerIn, withExpressionIn, setIn, listIn, raiseIn, isScopeCode, partsIn, headIn, manyIn, wholeIn, readArm, readAct, laterOf, starts, startForm, firstStarts, everyStarts}
+use Rattle.plan.specs.Read.{expressionIn, tupleIn, Head, numberedHead, exchangeIn, armIn, partnerIn, heldSendIn, askingReceiveIn, withExpressionIn, setIn, listIn, raiseIn, isScopeCode, partsIn, headIn, manyIn, wholeIn, readArm, readAct, laterOf, starts, startForm, firstStarts, everyStarts}
 use Rattle.plan.specs.Spell.{spell, ownNumbers, gapsOf, actNumbers, actsNumbers}
 use Rattle.plan.specs.Table.{putOwn, putClose, put, putAll, ownNodes, nodes, nodesAll}
-use Rattle.plan.specs.Tree.{Exp, Own, send, receive, set, choose, repeat, sequence, flow, pick, kind, isScope, isPick, numbersOf, Act, act, Acts, none, more, size, sizes, count}
+use Rattle.plan.specs.Tree.{Exp, Own, toPartner, fromPartner, send, receive, set, choose, repeat, sequence, flow, pick, kind, isScope, isPick, numbersOf, Act, act, Acts, none, more, size, sizes, count}
 use Rattle.plan.specs.Within.{levelsBelow}
 use Rattle.plan.proofs.Bounds.{arm-numbered, own-nodes-spelled, act-nodes-spelled, many-numbered, reads-numbered, act-numbered, Numbered}
 use Rattle.plan.proofs.Finds.{Finds, finds-refused, finds-itself, finds-found, finds-cond, finds-then, finds-so, finds-both}
@@ -43,6 +43,23 @@ module _ (vars : ℕ) (s : List ℕ) where
   unfolding partnerIn
   partner-few once own at = finds-then (finds-itself (fieldIn s 0 64 at)) (λ partner p h. exchange-few once (own partner) 0 p (omega arith))
 
+  held-few : (at : ℕ) → Finds Few (heldSendIn vars s at)
+  unfolding heldSendIn
+  held-few at =
+      finds-then (finds-itself (fieldIn s 0 vars at))
+      (λ v p h. finds-then (finds-itself (fieldIn s 0 64 p))
+      (λ operation q i. finds-then (finds-itself (tupleIn vars false s q))
+      (λ variables r j. finds-then (finds-itself (fieldIn s 0 64 r)) (λ reply next k. finds-found (omega arith)))))
+
+  asking-few : (cs : List ℕ) (at : ℕ) → Finds Few (askingReceiveIn vars cs s at)
+  unfolding askingReceiveIn
+  asking-few cs at =
+      finds-then (finds-itself (fieldIn s 0 64 at))
+      (λ partner p h. finds-then (finds-itself (fieldIn s 0 64 p))
+      (λ operation q i. finds-then (finds-itself (tupleIn vars true s q))
+      (λ variables r j. finds-then (finds-itself (fieldIn s 0 vars r))
+      (λ v next k. finds-cond (among v cs || among v variables) (λ t. finds-refused) (λ t. finds-found (omega arith))))))
+
   expression-few : (own : Exp → Own) (within at : ℕ) → within ≤ 32 → Finds Few (withExpressionIn vars s own within at)
   unfolding withExpressionIn
   expression-few own within at l = finds-then (finds-itself (expressionIn 8 vars s at)) (λ e p h. finds-found l)
@@ -64,8 +81,8 @@ module _ (vars : ℕ) (s : List ℕ) where
   unfolding partsIn
   parts-few cs code at =
       finds-cond (eqb code 0) (λ e. finds-found (omega arith))
-      (λ l. finds-cond (eqb code 1) (λ e. partner-few false send at)
-      (λ l. finds-cond (eqb code 2) (λ e. partner-few true receive at)
+      (λ l. finds-cond (eqb code 1) (λ e. partner-few false (λ p. send (toPartner p)) at)
+      (λ l. finds-cond (eqb code 2) (λ e. partner-few true (λ p. receive (fromPartner p)) at)
       (λ l. finds-cond (eqb code 3) (λ e. set-few cs at)
       (λ l. finds-cond (eqb code 4) (λ e. finds-found (omega arith))
       (λ l. finds-cond (eqb code 5) (λ e. finds-found (omega arith))
@@ -77,7 +94,8 @@ module _ (vars : ℕ) (s : List ℕ) where
       (λ l. finds-cond (eqb code 11) (λ e. finds-found (omega arith))
       (λ l. finds-cond (eqb code 12) (λ e. finds-found (omega arith))
       (λ l. finds-cond (eqb code 13) (λ e. raise-few at)
-      (λ l. finds-found (omega arith)))))))))))))))
+      (λ l. finds-cond (eqb code 14) (λ e. finds-found (omega arith))
+      (λ l. finds-cond (eqb code 17) (λ e. held-few at) (λ l. asking-few cs at))))))))))))))))
 
   arm-alone : (n at : ℕ) → Finds (λ h next. (isScope (h .own) ≡ false) × ((isPick (h .own) ≡ false) × (h .within ≡ 1))) (armIn vars s n at)
   unfolding armIn exchangeIn

@@ -7,7 +7,7 @@ use lib.ListN.{length}
 use Rattle.plan.specs.Found.{Found, refused}
 use Rattle.plan.specs.Spell.{spell, ownNumbers, gapsOf, later}
 use Rattle.plan.specs.Table.{bodyPlace}
-use Rattle.plan.specs.Tree.{Own, empty, send, receive, set, raise, leave, choose, repeat, sequence, flow, pick, scope, arm, numbersOf, Act, act, Acts, none, more, Plan, count}
+use Rattle.plan.specs.Tree.{Own, empty, send, receive, set, raise, leave, choose, repeat, sequence, flow, pick, scope, arm, kind, partnerFrom, numbersOf, Act, act, Acts, none, more, Plan, count}
 
 -- what a receive or an arm asks for: its partner, its operation and its count, and the place where that count stands
 pub record Asked : Type 0 where
@@ -34,7 +34,7 @@ inBytes = record { owned = λ own within. length (spell (ownNumbers own within))
 unfoldable pub askedOwn : Places → Own → (at : ℕ) → List Asked
 askedOwn c empty at = []
 askedOwn c (send p o vs) at = []
-askedOwn c (receive p o vs) at = asking p o (length vs) (at + c .passed (2 ∷ p ∷ o ∷ [])) ∷ []
+askedOwn c (receive f o vs) at = asking (partnerFrom f) o (length vs) (at + c .passed (kind (receive f o vs) ∷ partnerFrom f ∷ o ∷ [])) ∷ []
 askedOwn c (set v e) at = []
 askedOwn c (raise n) at = []
 askedOwn c leave at = []

@@ -1,6 +1,6 @@
 -- Glue: how receives that disagree are found in one pass: what was heard so far. Assumes nothing: these are definitions, and nothing here has to be believed.
 use Prim.Native.Nat.{ℕ, zero, suc, _+_, _*_, _%_}
-use mathlib.Core.Bool.{cond}
+use mathlib.Core.Bool.{cond, _||_}
 use mathlib.Core.List.{List, [], _∷_, _++_}
 use lib.Dec.{eqb}
 use lib.ListN.{getD, set, replicate}
@@ -35,7 +35,7 @@ heardAll (a ∷ l) t = heardAll l (heard a t)
 
 -- how many bytes stand before the count of a receive, or of an arm: its code, its partner and its operation have one each
 unfoldable pub aheadOf : (kind : ℕ) → ℕ
-aheadOf kind = cond (eqb kind 2) 3 (cond (eqb kind 255) 2 0)
+aheadOf kind = cond (eqb kind 2 || eqb kind 18) 3 (cond (eqb kind 255) 2 0)
 
 -- what row k of a plan's table asks for
 unfoldable pub rowAsked : List ℕ → (k : ℕ) → List Asked

@@ -9,7 +9,7 @@ use lib.ListN.{length}
 use lib.Dec.{ltb, leb, eqb}
 use Rattle.plan.specs.Agree.{asked, judged}
 use Rattle.plan.specs.Found.{Found, refused, found, andThen, numberIn, fieldIn, among}
-use Rattle.plan.specs.Tree.{Operation, sum, difference, equal, less, Exp, constant, variable, binary, Own, empty, send, receive, set, raise, leave, choose, repeat, sequence, flow, pick, scope, arm, kind, isScope, isPick, Act, act, Acts, none, more, Plan, size, sizes}
+use Rattle.plan.specs.Tree.{Operation, sum, difference, equal, less, Exp, constant, variable, binary, Own, empty, To, toPartner, toHeld, From, fromPartner, fromAsking, send, receive, set, raise, leave, choose, repeat, sequence, flow, pick, scope, arm, kind, isScope, isPick, Act, act, Acts, none, more, Plan, size, sizes}
 
 -- Expressions: "0 constant, with its value; 1 variable; and with two operands, left first, 2 sum; 3 difference; 4 equal; 5 less."
 
@@ -77,9 +77,28 @@ armIn vars s n at =
     andThen (fieldIn s 0 64 at) (λ partner next.
     cond (leb 256 n) (refused 6 at) (exchangeIn vars true s (arm partner) 1 next))
 
--- a send or a receive, from its partner number on
+-- a send or a receive of a fixed partner, from its partner number on
 unfoldable pub partnerIn : (vars : ℕ) (once : Bool) → List ℕ → (ℕ → ℕ → List ℕ → Own) → (at : ℕ) → Found Head
 partnerIn vars once s own at = andThen (fieldIn s 0 64 at) (λ partner next. exchangeIn vars once s (own partner) 0 next)
+
+-- "Code 17 is a send whose first part is a variable that holds its partner, and whose last part is the reply partner that it carries."
+unfoldable pub heldSendIn : (vars : ℕ) → List ℕ → (at : ℕ) → Found Head
+heldSendIn vars s at =
+    andThen (fieldIn s 0 vars at) (λ v p.
+    andThen (fieldIn s 0 64 p) (λ operation q.
+    andThen (tupleIn vars false s q) (λ variables r.
+    andThen (fieldIn s 0 64 r) (λ reply next.
+    found (head (send (toHeld v reply) operation variables) 0) next))))
+
+-- "Code 18 is a receive with one last part, the variable that stores the reply partner": "That variable is not for correlation and not among the others."
+unfoldable pub askingReceiveIn : (vars : ℕ) → List ℕ → List ℕ → (at : ℕ) → Found Head
+askingReceiveIn vars cs s at =
+    andThen (fieldIn s 0 64 at) (λ partner p.
+    andThen (fieldIn s 0 64 p) (λ operation q.
+    andThen (tupleIn vars true s q) (λ variables r.
+    andThen (fieldIn s 0 vars r) (λ v next.
+    cond (among v cs || among v variables) (refused 5 r)
+    (found (head (receive (fromAsking partner v) operation variables) 0) next)))))
 
 -- an expression, and then `within` activities
 unfoldable pub withExpressionIn : (vars : ℕ) → List ℕ → (Exp → Own) → (within at : ℕ) → Found Head
@@ -99,14 +118,18 @@ listIn s own limit at = andThen (fieldIn s 1 limit at) (λ count next. found (he
 unfoldable pub raiseIn : List ℕ → (at : ℕ) → Found Head
 raiseIn s at = andThen (fieldIn s 16 256 at) (λ n next. found (head (raise n) 0) next)
 
--- "a number twice in one scope, or one outside 0 to 4 and 16 to 255, is 5": a number that a fault part may have, and that is none of those read
+-- "a number twice in one scope, or one outside 0 to 4 and 16 to 255, is 5", and since request 5 "number 5, which a scope of code 14 may then name": a number that a fault part may have, and that is none of those read
 unfoldable pub namable : ℕ → Bool
-namable n = leb n 4 || (leb 16 n && leb n 255)
+namable n = leb n 5 || (leb 16 n && leb n 255)
 
 unfoldable pub faultNumberIn : List ℕ → (read : List ℕ) → (at : ℕ) → Found ℕ
 faultNumberIn s read at =
     andThen (numberIn s at) (λ n next.
     cond (namable n && not (among n read)) (found n next) (refused 5 at))
+
+-- "codes 17 and 18 no longer earn 4": 15 and 16 do
+abbrev pub isCode : ℕ → Bool
+isCode code = leb code 14 || (eqb code 17 || eqb code 18)
 
 -- the code of an activity: 4 unknown code; 8 scope in a fault or undo part; 6 depth 17 or activity 257; in that order, at that number
 abbrev pub isScopeCode : ℕ → Bool
@@ -115,7 +138,7 @@ isScopeCode code = eqb code 11 || (eqb code 12 || eqb code 14)
 unfoldable pub codeIn : List ℕ → (handler : Bool) → (depth n at : ℕ) → Found ℕ
 codeIn s handler depth n at =
     andThen (numberIn s at) (λ code next.
-    cond (ltb 14 code) (refused 4 at)
+    cond (not (isCode code)) (refused 4 at)
     (cond (handler && isScopeCode code) (refused 8 at)
     (cond (eqb depth 0 || leb 256 n) (refused 6 at)
     (found code next))))
@@ -124,8 +147,8 @@ codeIn s handler depth n at =
 unfoldable pub partsIn : (vars : ℕ) → List ℕ → List ℕ → (code at : ℕ) → Found Head
 partsIn vars cs s code at =
     cond (eqb code 0) (found (head empty 0) at)
-    (cond (eqb code 1) (partnerIn vars false s send at)
-    (cond (eqb code 2) (partnerIn vars true s receive at)
+    (cond (eqb code 1) (partnerIn vars false s (λ p. send (toPartner p)) at)
+    (cond (eqb code 2) (partnerIn vars true s (λ p. receive (fromPartner p)) at)
     (cond (eqb code 3) (setIn vars cs s at)
     (cond (eqb code 4) (found (head (raise 0) 0) at)
     (cond (eqb code 5) (found (head leave 0) at)
@@ -137,7 +160,9 @@ partsIn vars cs s code at =
     (cond (eqb code 11) (found (head (scope [] true) 3) at)
     (cond (eqb code 12) (found (head (scope [] false) 2) at)
     (cond (eqb code 13) (raiseIn s at)
-    (found numberedHead at))))))))))))))
+    (cond (eqb code 14) (found numberedHead at)
+    (cond (eqb code 17) (heldSendIn vars s at)
+    (askingReceiveIn vars cs s at))))))))))))))))
 
 unfoldable pub headIn : (vars : ℕ) → List ℕ → List ℕ → (handler : Bool) → (depth n at : ℕ) → Found Head
 headIn vars cs s handler depth n at = andThen (codeIn s handler depth n at) (λ code next. partsIn vars cs s code next)
@@ -205,7 +230,7 @@ readAct (suc depth) vars cs s handler n at =
 -- start form." `first` is whether the first within is a start form, `every` whether all are.
 unfoldable pub starts : (kind : ℕ) → (first every : Bool) → Bool
 starts kind first every =
-    cond (eqb kind 2 || eqb kind 10) true
+    cond (eqb kind 2 || (eqb kind 18 || eqb kind 10)) true
     (cond (eqb kind 8 || isScopeCode kind) first
     (cond (eqb kind 9) every false))
 

@@ -72,6 +72,7 @@ fn ahead(kind: usize) -> usize
 {
     match kind {
         code::RECEIVE => 3,
+        code::ASKING_RECEIVE => 3,
         code::ARM => 2,
         _ => 0,
     }

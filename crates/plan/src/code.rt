@@ -30,6 +30,10 @@ pub const NUMBERED_RAISE: usize = super::kind::NUMBERED_RAISE as usize;
 
 pub const NUMBERED_SCOPE: usize = super::kind::NUMBERED_SCOPE as usize;
 
+pub const HELD_SEND: usize = super::kind::HELD_SEND as usize;
+
+pub const ASKING_RECEIVE: usize = super::kind::ASKING_RECEIVE as usize;
+
 pub const LAST: usize = super::kind::LAST as usize;
 
 pub const ARM: usize = super::kind::ARM as usize;

@@ -33,7 +33,13 @@ pub const NUMBERED_RAISE: u32 = 13;
 // A scope with fault parts by number, and with an undo part.
 pub const NUMBERED_SCOPE: u32 = 14;
 
-// The last code of an activity: what stands on file above it is no activity.
+// A send to the partner that a variable holds, with a partner to reply to.
+pub const HELD_SEND: u32 = 17;
+
+// A receive that stores whom to reply to.
+pub const ASKING_RECEIVE: u32 = 18;
+
+// The last of the codes that follow each other: above it stand those of a send and a receive with a reply partner alone.
 pub const LAST: u32 = NUMBERED_SCOPE;
 
 pub const ARM: u32 = 255;

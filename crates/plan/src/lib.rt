@@ -8,6 +8,7 @@ mod kinds;
 mod named;
 mod owns;
 mod reading;
+mod replies;
 mod root;
 pub mod table;
 mod tree;

@@ -16,14 +16,14 @@ ghost use Rattle.plan.specs.Read.{namable, faultNumberIn};
 fn is_namable(x: u32) -> bool
     ensures { λ r. ⌜ r ≡ namable x ⌝ }
 {
-    if x <= 4 {
+    if x <= 5 {
         return true;
     }
     if 16 <= x { x <= 255 } else { false }
 }
 
 // Whether a number is among the first k.
-fn is_among(x: u32, numbers: [u32; 8], k: usize) -> bool
+pub(crate) fn is_among(x: u32, numbers: [u32; 8], k: usize) -> bool
     requires { ⌜ k ≤ 8 ⌝ }
     ensures { λ r. ⌜ r ≡ among x (backwards k numbers) ⌝ }
 {

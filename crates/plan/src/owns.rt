@@ -8,17 +8,19 @@ use super::fields::number_at;
 use super::fields::tuple_at;
 use super::kind;
 use super::kinds::is_scope;
+use super::replies::asking_receive_own;
+use super::replies::held_send_own;
 use super::table::Table;
 use super::table::write_row;
 ghost use Prim.Native.Nat.{_≤_, _<_};
 ghost use lib.Dec.{eqb, leb};
-ghost use mathlib.Core.Bool.{_&&_, _||_};
+ghost use mathlib.Core.Bool.{not, _&&_, _||_};
 ghost use mathlib.Core.List.{[]};
 ghost use mathlib.Core.Path.{_≡_};
 ghost use Rattle.plan.specs.Answers.{fieldOf, messageOwn, expressionOwn, listOwn, OwnRead};
 ghost use Rattle.plan.specs.Fits.{NumberFits};
 ghost use Rattle.plan.specs.Nodes.{Base, Room, IsMessage, IsExpression, IsList, nodeHeadIn};
-ghost use Rattle.plan.specs.Read.{exchangeIn, partnerIn, armIn, withExpressionIn, setIn, listIn, raiseIn, isScopeCode, codeIn, partsIn, headIn};
+ghost use Rattle.plan.specs.Read.{exchangeIn, partnerIn, armIn, withExpressionIn, setIn, listIn, raiseIn, isCode, isScopeCode, codeIn, partsIn, headIn};
 ghost use Rattle.plan.specs.Store.{chosen};
 ghost use Rattle.plan.specs.Table.{row, putRow};
 
@@ -45,8 +47,8 @@ fn plain_own(
     }
 }
 
-// Operation, count and variables.
-fn exchange_own(
+// Operation, count and variables; of a send or a receive with a reply partner its row is written as if that were 0.
+pub(crate) fn exchange_own(
     s: &[u8],
     at: usize,
     kind: u32,
@@ -267,6 +269,20 @@ fn raise_own(s: &[u8], at: usize, n: usize, m: usize, place: usize, table: &mut 
     }
 }
 
+// Whether no activity has this code.
+fn unknown(code: u32) -> bool
+    ensures { λ r. ⌜ r ≡ not (isCode code) ⌝ }
+{
+    if code <= kind::LAST {
+        return false;
+    }
+    match code {
+        kind::HELD_SEND => false,
+        kind::ASKING_RECEIVE => false,
+        _ => true,
+    }
+}
+
 // Whether a scope stands where none may.
 fn misplaced(code: u32, handler: bool) -> bool
     ensures { λ r. ⌜ r ≡ (handler && isScopeCode code) ⌝ }
@@ -293,7 +309,7 @@ fn code_at(s: &[u8], at: usize, handler: bool, depth: usize, n: usize) -> Field
             place: _,
         } => read,
         Field::Got { value, next: _ } => {
-            if kind::LAST < value {
+            if unknown(value) {
                 return Field::Refused {
                     number: 4,
                     place: at,
@@ -355,7 +371,9 @@ fn parts_own(
         kind::SCOPE => plain_own(at, kind::SCOPE, 3, n, m, place, table),
         kind::OPEN_SCOPE => plain_own(at, kind::OPEN_SCOPE, 2, n, m, place, table),
         kind::NUMBERED_RAISE => raise_own(s, at, n, m, place, table),
-        _ => Own::Numbered { body: at },
+        kind::NUMBERED_SCOPE => Own::Numbered { body: at },
+        kind::HELD_SEND => held_send_own(s, at, vars, n, m, place, table),
+        _ => asking_receive_own(s, at, vars, correlation, n, m, place, table),
     }
 }
 

@@ -1,9 +1,9 @@
 // The table of a plan (specs/Table.antt): how it is laid out, a row for each activity and arm, then a flag for each partner, then a pair for each node of the
 // expressions; and the stores into it.
 use super::kind;
-ghost use Prim.Native.Nat.{_≤_, _<_};
+ghost use Prim.Native.Nat.{_+_, _*_, _≤_, _<_};
 ghost use lib.Dec.{eqb};
-ghost use lib.ListN.{getD};
+ghost use lib.ListN.{getD, set};
 ghost use mathlib.Core.Bool.{_||_};
 ghost use mathlib.Core.List.{[], _∷_};
 ghost use mathlib.Core.Path.{_≡_};
@@ -32,7 +32,10 @@ pub const COUNT: usize = 3;
 
 pub const VARIABLES: usize = 4;
 
-// The variable of a set, and the number of the first node of the expression of a set, a choose or a repeat.
+// A send to the partner that a variable holds has its reply partner there.
+pub const REPLY: usize = PARTNER;
+
+// The variable of a set, the one that holds the partner of a send and the one that stores the reply partner of a receive; and the number of the first node of the expression of a set, a choose or a repeat.
 pub const VARIABLE: usize = 8;
 
 pub const EXPRESSION: usize = 9;
@@ -60,10 +63,11 @@ pub const VALUES: usize = NODES + 1;
 
 // Whether an activity of this kind takes messages.
 fn receives(kind: u32) -> bool
-    ensures { λ r. ⌜ r ≡ (eqb kind 2 || eqb kind 255) ⌝ }
+    ensures { λ r. ⌜ r ≡ (eqb kind 2 || (eqb kind 18 || eqb kind 255)) ⌝ }
 {
     match kind {
         kind::RECEIVE => true,
+        kind::ASKING_RECEIVE => true,
         kind::ARM => true,
         _ => false,
     }
@@ -134,6 +138,14 @@ pub(crate) fn write_numbers(
     table[b + 8] = numbers[6];
     table[b + 9] = numbers[7];
     table[b + PLACE] = place as u32;
+}
+
+// Column c of row n.
+pub(crate) fn write_column(table: &mut Table, n: usize, c: usize, x: u32)
+    requires { ⌜ (n < 256) × (c < 13) ⌝ }
+    ensures { λ _. ⌜ now (table .exit) ≡ set (now (table .entry)) (n * 13 + c) x ⌝ }
+{
+    table[n * WIDTH + c] = x;
 }
 
 // The end and the stop of row n: the number after its last activity, and the place after its last byte.

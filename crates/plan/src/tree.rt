@@ -44,6 +44,7 @@ fn starts_of(kind: u32, first: bool, every: bool) -> bool
 {
     match kind {
         kind::RECEIVE => true,
+        kind::ASKING_RECEIVE => true,
         kind::SEQUENCE => first,
         kind::FLOW => every,
         kind::PICK => true,

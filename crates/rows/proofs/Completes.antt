@@ -9,20 +9,20 @@ use mathlib.Core.List.{List, [], _∷_, _++_, append-assoc, append-nil}
 use Prim.Native.Nat.{ℕ, zero, suc, _+_, _*_, _-_, _/_, _≤_, _<_}
 use lib.Dec.{eqb, ltb, leb}
 use lib.ListN.{length, getD, take, drop, replicate, length-append, length-replicate, length-drop}
-use lib.Seq.{drop-cons, drop-drop, drop-at, take-append-seam, drop-append-seam, getD-drop}
+use lib.Seq.{drop-cons, drop-drop, drop-at, take-append-seam, take-take, drop-append-seam, getD-append-seam, getD-take, getD-drop}
 use Rattle.plan.specs.Found.{Found, refused, found, andThen, among}
-use Rattle.plan.specs.Read.{operationOf, Head, head, numberedHead, namable, isScopeCode, manyIn, Numbered, alsoNumbered, laterOf, startForm}
+use Rattle.plan.specs.Read.{operationOf, Head, head, numberedHead, namable, isCode, isScopeCode, manyIn, Numbered, alsoNumbered, laterOf, startForm}
 use Rattle.plan.specs.Spell.{operationCode, exchangeNumbers, gapsOf, gap, later, spelling}
-use Rattle.plan.specs.Tree.{Operation, sum, difference, equal, less, Exp, constant, variable, binary, Own, empty, send, receive, set, raise, leave, choose, repeat, sequence, flow, pick, scope, arm, isScope, isPick, numbersOf, Act, act, Acts, none, more, Plan, size, sizes, count}
+use Rattle.plan.specs.Tree.{Operation, sum, difference, equal, less, Exp, constant, variable, binary, Own, empty, toPartner, toHeld, fromPartner, fromAsking, send, receive, set, raise, leave, choose, repeat, sequence, flow, pick, scope, arm, isScope, isPick, numbersOf, Act, act, Acts, none, more, Plan, size, sizes, count}
 use Rattle.plan.specs.Agree.{askedFrom, agree, judged}
 use Rattle.plan.specs.Within.{expressionWithin, variablesWithin, exchangeWithin, from1, numbersEach, numbersWithin, ownWithin, actWithin, actsWithin, ascending, planWithin}
 use Rattle.plan.proofs.Accepts.{both, Apart, apart-first, apart-more}
-use Rattle.plan.proofs.ByKind.{raise-limits, ByNumber, plain, numbered, by-number}
+use Rattle.plan.proofs.ByKind.{raise-limits, ByNumber, plain, numbered, by-number, early-code}
 use Rattle.writer.specs.Rows as rows
 use Rattle.writer.specs.Rows.{line, lines, expressionRows, ownRows, actRows, actsRows, planRows, rowsOf}
 use Rattle.plan.proofs.Agreeing.{judged-agrees}
-use Rattle.writer.specs.Reading.{cell, zeros, shaped, tuple, rowIn, expressionFits, expressionHead, expressionAt, exchangeFits, armAt, codeAt, partsFit, withExpression, partsAt, headAt, countAt, faultNumberAt, numberedAt, numberedScopeAt, wholeAt, armWith, readsAt, actAt, rootAt, headFits, planAt, inRows, agreedAt, readRows}
-use Rattle.writer.proofs.Lines.{Row, Stands, nil, cons, stands-append, cells-cons, line-long}
+use Rattle.writer.specs.Reading.{cell, zeros, shaped, tuple, rowIn, expressionFits, expressionHead, expressionAt, exchangeFits, lastOf, armAt, codeAt, partsFit, withExpression, partsAt, headAt, countAt, faultNumberAt, numberedAt, numberedScopeAt, wholeAt, armWith, readsAt, actAt, rootAt, headFits, planAt, inRows, agreedAt, readRows}
+use Rattle.writer.proofs.Lines.{Row, Stands, nil, cons, stands-append, cells-cons, four-cells, line-long}
 use Rattle.writer.proofs.RowStands.{scope-rows}
 use Rattle.rows.proofs.SamePlaces.{rows-agree}
 
@@ -170,17 +170,32 @@ record Tupled4 (t : List ℕ) (r b c : ℕ) (vs : List ℕ) : Type 0 where
   four : cell t r 4 ≡ length vs
   all : tuple t r 4 ≡ vs
 
-tuple4-read : {t : List ℕ} {r a b c : ℕ} {vs : List ℕ} → Row t r (a ∷ b ∷ c ∷ length vs ∷ vs) → Tupled4 t r b c vs
-tuple4-read {t} {r} {a} {b} {c} {vs} w =
-    let h = w .there in
-    let i : cell t r 1 ∷ cell t r 2 ∷ cell t r 3 ∷ cell t r 4 ∷ take (length vs) (drop (r * 20 + 5) t) ≡ a ∷ b ∷ c ∷ length vs ∷ vs =
-    sym (cells-cons t r 1 (suc (suc (suc (length vs)))) h (omega arith) ∙ ap (λ (x : List ℕ). cell t r 1 ∷ x) (cells-cons t r 2 (suc (suc (length vs))) h (omega arith)
-    ∙ ap (λ (x : List ℕ). cell t r 2 ∷ x) (cells-cons t r 3 (suc (length vs)) h (omega arith)
-    ∙ ap (λ (x : List ℕ). cell t r 3 ∷ x) (cells-cons t r 4 (length vs) h (omega arith))))) ∙ w .is in
+-- a row whose variables are followed by others, or by none
+tuple4-read : {t : List ℕ} {r a b c : ℕ} (vs us : List ℕ) {l : List ℕ} → l ≡ vs ++ us → Row t r (a ∷ b ∷ c ∷ length vs ∷ l) → Tupled4 t r b c vs
+tuple4-read {t} {r} {a} {b} {c} vs us {l} e w =
+    let i : cell t r 1 ∷ cell t r 2 ∷ cell t r 3 ∷ cell t r 4 ∷ take (length l) (drop (r * 20 + 5) t) ≡ a ∷ b ∷ c ∷ length vs ∷ l =
+    sym (four-cells t r (w .there) (length l)) ∙ w .is in
     let d : cell t r 4 ≡ length vs = cc in
-    let k : take (length vs) (drop (r * 20 + 5) t) ≡ vs = cc in
+    let k : take (length l) (drop (r * 20 + 5) t) ≡ l = cc in
+    let m : length l ≡ length vs + length us = ap length e ∙ length-append vs us in
+    let f : take (length vs) (drop (r * 20 + 5) t) ≡ vs =
+    sym (take-take (length vs) (length l) (drop (r * 20 + 5) t) (omega arith)) ∙ rw (k, e) (take-append-seam vs us) in
     let y : r * 20 + 4 + 1 ≡ r * 20 + 5 = omega arith in
-    record { two = cc; three = cc; four = d; all = rw (d, y) k }
+    record { two = cc; three = cc; four = d; all = rw (d, y) f }
+
+-- the number behind them
+last-read : {t : List ℕ} {r a b c : ℕ} (vs : List ℕ) (x : ℕ) → Row t r (a ∷ b ∷ c ∷ length vs ∷ (vs ++ (x ∷ []))) → lastOf t r 4 ≡ x
+last-read {t} {r} {a} {b} {c} vs x w =
+    let l = vs ++ (x ∷ []) in
+    let i : cell t r 1 ∷ cell t r 2 ∷ cell t r 3 ∷ cell t r 4 ∷ take (length l) (drop (r * 20 + 5) t) ≡ a ∷ b ∷ c ∷ length vs ∷ l =
+    sym (four-cells t r (w .there) (length l)) ∙ w .is in
+    let d : cell t r 4 ≡ length vs = cc in
+    let k : take (length l) (drop (r * 20 + 5) t) ≡ l = cc in
+    let z : r * 20 + (5 + length vs) ≡ r * 20 + 5 + length vs = omega arith in
+    let m : length l ≡ length vs + 1 = length-append vs (x ∷ []) in
+    rw (d, z)
+    (sym (getD-drop (r * 20 + 5) t (length vs) 0)
+    ∙ (sym (getD-take (length l) (drop (r * 20 + 5) t) (length vs) 0 (omega arith)) ∙ (ap (λ (y : List ℕ). getD y (length vs) 0) k ∙ getD-append-seam vs x [] 0)))
 
 pub record Exchange (vars : ℕ) (once : Bool) (p o : ℕ) (vs : List ℕ) : Type 0 where
   pub partner : ltb p 64 ≡ true
@@ -195,42 +210,62 @@ exchange-of vars once p o vs h =
     both (ltb p 64) _ h (λ a h1. both (ltb o 64) _ h1 (λ b h2. both (leb 1 (length vs)) _ h2 (λ c h3. both (leb (length vs) 4) _ h3 (λ d e.
     record { partner = a; operation = b; some = c; most = d; each = e }))))
 
-message-read : (vars : ℕ) (once : Bool) {t : List ℕ} {r k p o : ℕ} {vs : List ℕ} → exchangeWithin vars once p o vs ≡ true
-    → Row t r (k ∷ p ∷ o ∷ length vs ∷ vs) → (ltb (cell t r 2) 64 && exchangeFits vars once t r 3) ≡ true
+-- operation, count and variables, behind any first number, with `behind` numbers behind them
+exchange-read : (vars : ℕ) (once : Bool) (behind : ℕ) {t : List ℕ} {r a p o : ℕ} {vs : List ℕ} → Exchange vars once p o vs → Tupled4 t r a o vs → (k : ℕ)
+    → shaped t r k ≡ true → k ≡ 4 + length vs + behind → exchangeFits vars once t r 3 behind ≡ true
 unfolding exchangeFits
-message-read vars once {t} {r} {k} {p} {o} {vs} h w =
+exchange-read vars once behind x y k s e = rw (y .all, y .three, x .operation, y .four, x .some, x .most, x .each, ← e) s
+
+message-read : (vars : ℕ) (once : Bool) {t : List ℕ} {r k p o : ℕ} (vs : List ℕ) → exchangeWithin vars once p o vs ≡ true
+    → Row t r (k ∷ p ∷ o ∷ length vs ∷ vs) → (ltb (cell t r 2) 64 && exchangeFits vars once t r 3 0) ≡ true
+message-read vars once {t} {r} {k} {p} {o} vs h w =
     let x = exchange-of vars once p o vs h in
-    let y : Tupled4 t r p o vs = tuple4-read {vs = vs} w in
-    let n : 4 + length vs ≡ suc (suc (suc (suc (length vs)))) = omega arith in
-    rw (y .all, y .two, x .partner, y .three, x .operation, y .four, x .some, x .most, x .each, n) (w .shape)
+    let y : Tupled4 t r p o vs = tuple4-read vs [] (sym (append-nil vs)) w in
+    rw (y .two, x .partner) (exchange-read vars once 0 {vs = vs} x y _ (w .shape) (omega arith))
 
 module _ (vars : ℕ) (cs t : List ℕ) (handler : Bool) (d n : ℕ) (room : n < 256) where
-  code-read : {r k : ℕ} {ns : List ℕ} → Row t r (k ∷ ns) → k ≤ 14 → (handler && isScopeCode k) ≡ false → codeAt t handler (suc d) n r ≡ found k (r + 1)
+  code-read : {r k : ℕ} {ns : List ℕ} → Row t r (k ∷ ns) → isCode k ≡ true → (handler && isScopeCode k) ≡ false → codeAt t handler (suc d) n r ≡ found k (r + 1)
   unfolding codeAt
-  code-read {k = k} w h f = rw (row-read w, le-ltb 14 k h, f, ne-eqb (suc d) 0 (λ z. omega arith), lt-leb 256 n room)
+  code-read {k = k} w h f = rw (row-read w, h, f, ne-eqb (suc d) 0 (λ z. omega arith), lt-leb 256 n room)
 
   known-read : {r k : ℕ} {ns : List ℕ} → Row t r (k ∷ ns) → k ≤ 10 → partsFit vars cs t r k ≡ true
       → headAt vars cs t handler (suc d) n r ≡ partsAt vars t r k (r + 1)
   unfolding headAt
-  known-read {k = k} w h f = rw (code-read w (omega arith) (rw (ne-eqb k 11 (λ z. omega arith), ne-eqb k 12 (λ z. omega arith), ne-eqb k 14 (λ z. omega arith)) (and-false handler)), f)
+  known-read {k = k} w h f = rw (code-read w (early-code k (omega arith)) (rw (ne-eqb k 11 (λ z. omega arith), ne-eqb k 12 (λ z. omega arith), ne-eqb k 14 (λ z. omega arith)) (and-false handler)), f)
 
   own-read : (own : Own) (within : ℕ) {r m : ℕ} → numbersOf own ≡ [] → ownWithin vars cs handler false own within ≡ true → Stands t r (ownRows own within) m
       → headAt vars cs t handler (suc d) n r ≡ found (head own within) m
   unfolding ownWithin ownRows exchangeNumbers partsFit partsAt withExpression headAt
   own-read empty within i h (cons w nil) = known-read w (omega arith) (w .shape) ∙ rw (eqb-true within 0 h)
-  own-read (send p o vs) within i h (cons w nil) =
-      both (eqb within 0) _ h (λ z x. let y : Tupled4 t _ p o vs = tuple4-read {vs = vs} w in
-      known-read w (omega arith) (message-read vars false {vs = vs} x w) ∙ rw (y .all, y .two, y .three, eqb-true within 0 z))
-  own-read (receive p o vs) within i h (cons w nil) =
-      both (eqb within 0) _ h (λ z x. let y : Tupled4 t _ p o vs = tuple4-read {vs = vs} w in
-      known-read w (omega arith) (message-read vars true {vs = vs} x w) ∙ rw (y .all, y .two, y .three, eqb-true within 0 z))
+  own-read (send (toPartner p) o vs) within i h (cons w nil) =
+      both (eqb within 0) _ h (λ z x. let y : Tupled4 t _ p o vs = tuple4-read vs [] (sym (append-nil vs)) w in
+      known-read w (omega arith) (message-read vars false vs x w) ∙ rw (y .all, y .two, y .three, eqb-true within 0 z))
+  own-read (send (toHeld v reply) o vs) within {r} i h (cons w nil) =
+      both (eqb within 0) _ h (λ z h1. both (ltb v vars) _ h1 (λ f g.
+      let x = exchange-of vars false reply o vs g in
+      let y : Tupled4 t r v o vs = tuple4-read vs (reply ∷ []) refl w in
+      let e : lastOf t r 4 ≡ reply = last-read vs reply w in
+      let n = length-append vs (reply ∷ []) in
+      let q : exchangeFits vars false t r 3 1 ≡ true = exchange-read vars false 1 {vs = vs} x y _ (w .shape) (omega arith) in
+      rw (code-read w refl (and-false handler), e, q, y .two, f, x .partner, y .all, y .three, eqb-true within 0 z)))
+  own-read (receive (fromPartner p) o vs) within i h (cons w nil) =
+      both (eqb within 0) _ h (λ z x. let y : Tupled4 t _ p o vs = tuple4-read vs [] (sym (append-nil vs)) w in
+      known-read w (omega arith) (message-read vars true vs x w) ∙ rw (y .all, y .two, y .three, eqb-true within 0 z))
+  own-read (receive (fromAsking p v) o vs) within {r} i h (cons w nil) =
+      both (eqb within 0) _ h (λ z h1. both (exchangeWithin vars true p o vs) _ h1 (λ g h2. both (ltb v vars) _ h2 (λ f b.
+      let x = exchange-of vars true p o vs g in
+      let y : Tupled4 t r p o vs = tuple4-read vs (v ∷ []) refl w in
+      let e : lastOf t r 4 ≡ v = last-read vs v w in
+      let n = length-append vs (v ∷ []) in
+      let q : exchangeFits vars true t r 3 1 ≡ true = exchange-read vars true 1 {vs = vs} x y _ (w .shape) (omega arith) in
+      rw (code-read w refl (and-false handler), e, q, y .all, y .two, x .partner, f, b, y .three, eqb-true within 0 z))))
   own-read (set v e) within i h (cons w x) =
       both (eqb within 0) _ h (λ z h1. both (ltb v vars) _ h1 (λ a h2. both (not (among v cs)) _ h2 (λ b q.
       known-read w (omega arith) (rw (second-read w, a, b) (w .shape)) ∙ rw (expression-read vars t e 8 q x, second-read w, eqb-true within 0 z))))
   own-read (raise zero) within i h (cons w nil) = both (eqb within 0) _ h (λ z x. known-read w (omega arith) (w .shape) ∙ rw (eqb-true within 0 z))
   own-read (raise (suc number)) within i h (cons w nil) =
       both (eqb within 0) _ h (λ z x. let y = raise-limits number x in
-      rw (code-read w (omega arith) (and-false handler), second-read w, le-leb 16 (suc number) (y .0), le-leb (suc number) 255 (omega (arith, y .1)), w .shape, eqb-true within 0 z))
+      rw (code-read w refl (and-false handler), second-read w, le-leb 16 (suc number) (y .0), le-leb (suc number) 255 (omega (arith, y .1)), w .shape, eqb-true within 0 z))
   own-read leave within i h (cons w nil) = known-read w (omega arith) (w .shape) ∙ rw (eqb-true within 0 h)
   own-read (choose e) within i h (cons w x) =
       both (eqb within 2) _ h (λ z q. known-read w (omega arith) (w .shape) ∙ rw (expression-read vars t e 8 q x, eqb-true within 2 z))
@@ -240,16 +275,16 @@ module _ (vars : ℕ) (cs t : List ℕ) (handler : Bool) (d n : ℕ) (room : n <
   own-read flow within i h (cons w nil) = known-read w (omega arith) (rw (second-read w, h) (w .shape)) ∙ rw (second-read w)
   own-read pick within i h (cons w nil) = known-read w (omega arith) (rw (second-read w, h) (w .shape)) ∙ rw (second-read w)
   own-read (scope [] true) within i h (cons w nil) =
-      both (eqb within 3) _ h (λ z x. both (not handler) _ x (λ y v. rw (code-read w (omega arith) (rw (not-true handler y)), w .shape, eqb-true within 3 z)))
+      both (eqb within 3) _ h (λ z x. both (not handler) _ x (λ y v. rw (code-read w refl (rw (not-true handler y)), w .shape, eqb-true within 3 z)))
   own-read (scope [] false) within i h (cons w nil) =
-      both (eqb within 2) _ h (λ z x. both (not handler) _ x (λ y v. rw (code-read w (omega arith) (rw (not-true handler y)), w .shape, eqb-true within 2 z)))
+      both (eqb within 2) _ h (λ z x. both (not handler) _ x (λ y v. rw (code-read w refl (rw (not-true handler y)), w .shape, eqb-true within 2 z)))
   own-read (scope (number ∷ numbers) undo) within i h x = let z : _≡_ {A = ℕ} 0 1 = cc in absurd (omega arith)
   own-read (arm p o vs) within i h x = absurd (false≢true h)
 
   -- a scope with fault parts by number, before its body
   scope-read : {r : ℕ} → Row t r (14 ∷ []) → handler ≡ false → headAt vars cs t handler (suc d) n r ≡ found numberedHead (r + 1)
   unfolding headAt partsFit partsAt
-  scope-read w e = rw (code-read w (omega arith) (rw e), w .shape)
+  scope-read w e = rw (code-read w refl (rw e), w .shape)
 
   arm-own-read : (own : Own) (within : ℕ) {r m : ℕ} → ownWithin vars cs handler true own within ≡ true → Stands t r (ownRows own within) m
       → ((isScope own ≡ false) × ((isPick own ≡ false) × (numbersOf own ≡ []))) × (armAt vars t n r ≡ found (head own within) m)
@@ -258,11 +293,13 @@ module _ (vars : ℕ) (cs t : List ℕ) (handler : Bool) (d n : ℕ) (room : n <
       both (eqb within 1) _ h (λ z q.
       let x = exchange-of vars true p o vs q in
       let y : Tupled3 t r o vs = tuple3-read {vs = vs} w in
-      let k : 3 + length vs ≡ suc (suc (suc (length vs))) = omega arith in
+      let k : 3 + length vs + 0 ≡ suc (suc (suc (length vs))) = omega arith in
       ((refl, (refl, refl)), rw (row-read w, x .partner, lt-leb 256 n room, y .all, y .two, x .operation, y .three, x .some, x .most, x .each, k, w .shape, eqb-true within 1 z)))
   arm-own-read empty within h x = absurd (false≢true h)
-  arm-own-read (send p o vs) within h x = absurd (false≢true h)
-  arm-own-read (receive p o vs) within h x = absurd (false≢true h)
+  arm-own-read (send (toPartner p) o vs) within h x = absurd (false≢true h)
+  arm-own-read (send (toHeld v reply) o vs) within h x = absurd (false≢true h)
+  arm-own-read (receive (fromPartner p) o vs) within h x = absurd (false≢true h)
+  arm-own-read (receive (fromAsking p v) o vs) within h x = absurd (false≢true h)
   arm-own-read (set v e) within h x = absurd (false≢true h)
   arm-own-read (raise number) within h x = absurd (false≢true h)
   arm-own-read leave within h x = absurd (false≢true h)
@@ -496,10 +533,16 @@ short-exchange vars once p o vs h = leb-true _ _ (exchange-of vars once p o vs h
 short-own : (vars : ℕ) (cs : List ℕ) (handler arms : Bool) (own : Own) (within : ℕ) → ownWithin vars cs handler arms own within ≡ true → Short (ownRows own within)
 unfolding Short ownRows ownWithin exchangeNumbers
 short-own vars cs handler arms empty within h = (omega arith, tt)
-short-own vars cs handler arms (send p o vs) within h =
+short-own vars cs handler arms (send (toPartner p) o vs) within h =
     both (not arms) _ h (λ a h1. both (eqb within 0) _ h1 (λ b x. (omega (arith, short-exchange vars false p o vs x), tt)))
-short-own vars cs handler arms (receive p o vs) within h =
+short-own vars cs handler arms (send (toHeld v reply) o vs) within h =
+    both (not arms) _ h (λ a h1. both (eqb within 0) _ h1 (λ b h2. both (ltb v vars) _ h2 (λ c x.
+    (omega (arith, short-exchange vars false reply o vs x, length-append vs (reply ∷ [])), tt))))
+short-own vars cs handler arms (receive (fromPartner p) o vs) within h =
     both (not arms) _ h (λ a h1. both (eqb within 0) _ h1 (λ b x. (omega (arith, short-exchange vars true p o vs x), tt)))
+short-own vars cs handler arms (receive (fromAsking p v) o vs) within h =
+    both (not arms) _ h (λ a h1. both (eqb within 0) _ h1 (λ b h2. both (exchangeWithin vars true p o vs) _ h2 (λ x c.
+    (omega (arith, short-exchange vars true p o vs x, length-append vs (v ∷ [])), tt))))
 short-own vars cs handler arms (set v e) within h = (omega arith, short-expression e)
 short-own vars cs handler arms (raise zero) within h = (omega arith, tt)
 short-own vars cs handler arms (raise (suc number)) within h = (omega arith, tt)

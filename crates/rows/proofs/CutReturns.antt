@@ -206,6 +206,14 @@ module _ {kind : ℕ} (count : ℕ) where
   unfolding widthOf
   width-receive e f = f ∙ rw e
 
+  pub width-held : {n : ℕ} → kind ≡ 17 → n ≡ used (5 + count) → n ≡ widthOf kind count
+  unfolding widthOf
+  width-held e f = f ∙ rw e
+
+  pub width-asking : {n : ℕ} → kind ≡ 18 → n ≡ used (5 + count) → n ≡ widthOf kind count
+  unfolding widthOf
+  width-asking e f = f ∙ rw e
+
   pub width-arm : {n : ℕ} → kind ≡ 255 → n ≡ used (3 + count) → n ≡ widthOf kind count
   unfolding widthOf
   width-arm e f = f ∙ rw e
@@ -230,10 +238,11 @@ module _ {kind : ℕ} (count : ℕ) where
   unfolding widthOf
   width-raise e = rw e
 
-  pub width-code : (kind ≡ 1 → ⊥) → (kind ≡ 2 → ⊥) → (kind ≡ 3 → ⊥) → (kind ≡ 8 → ⊥) → (kind ≡ 9 → ⊥) → (kind ≡ 10 → ⊥) → (kind ≡ 13 → ⊥) → (kind ≡ 255 → ⊥)
-      → 1 ≡ widthOf kind count
+  pub width-code : (kind ≡ 1 → ⊥) → (kind ≡ 2 → ⊥) → (kind ≡ 3 → ⊥) → (kind ≡ 8 → ⊥) → (kind ≡ 9 → ⊥) → (kind ≡ 10 → ⊥) → (kind ≡ 13 → ⊥) → (kind ≡ 17 → ⊥) → (kind ≡ 18 → ⊥)
+      → (kind ≡ 255 → ⊥) → 1 ≡ widthOf kind count
   unfolding widthOf
-  width-code a b c d e f g h = rw (ne-eqb _ _ a, ne-eqb _ _ b, ne-eqb _ _ c, ne-eqb _ _ d, ne-eqb _ _ e, ne-eqb _ _ f, ne-eqb _ _ g, ne-eqb _ _ h)
+  width-code a b c d e f g h i j =
+      rw (ne-eqb _ _ a, ne-eqb _ _ b, ne-eqb _ _ c, ne-eqb _ _ d, ne-eqb _ _ e, ne-eqb _ _ f, ne-eqb _ _ g, ne-eqb _ _ h, ne-eqb _ _ i, ne-eqb _ _ j)
 
 -- `opens_of`
 module _ {kind : ℕ} where

@@ -19,7 +19,7 @@ use Rattle.plan.specs.Spell.{spell, operationCode, exchangeNumbers, ownNumbers,
 use Rattle.plan.specs.Spells as spells
 use Rattle.plan.specs.Spells.{Spells, SpellsAll, SpellsPlan}
 use Rattle.plan.specs.Table.{rowOf, nodesOf, ownNodes, nodes, nodesAll, bodyPlace}
-use Rattle.plan.specs.Tree.{Operation, sum, difference, equal, less, Exp, constant, variable, binary, Own, empty, send, receive, set, raise, leave, choose, repeat, sequence, flow, pick, scope, arm, kind, numbersOf, Act, act, Acts, none, more, Plan, size, sizes, count}
+use Rattle.plan.specs.Tree.{Operation, sum, difference, equal, less, Exp, constant, variable, binary, Own, empty, toPartner, toHeld, fromPartner, fromAsking, send, receive, set, raise, leave, choose, repeat, sequence, flow, pick, scope, arm, kind, numbersOf, Act, act, Acts, none, more, Plan, size, sizes, count}
 use Rattle.plan.specs.Within.{expressionWithin, variablesWithin, exchangeWithin, from1, numbersEach, numbersWithin, ownWithin, actWithin, actsWithin, ascending}
 use Rattle.plan.proofs.Accepts.{both}
 use Rattle.plan.proofs.ByKind.{raise-limits, namable-small, ByNumber, plain, numbered, by-number}
@@ -207,6 +207,10 @@ module _ (s t : List ℕ) where
   unfolding exchangeNumbers
   exchange-wide p o vs h = rw (le-ltb 19 (4 + length vs) (omega arith)) (omega arith)
 
+  last-wide : (p o x : ℕ) (vs : List ℕ) → length (exchangeNumbers p o vs ++ (x ∷ [])) ≤ 18 → used (5 + length vs) ≡ suc (length (exchangeNumbers p o vs ++ (x ∷ [])))
+  unfolding exchangeNumbers
+  last-wide p o x vs h = let e = length-append vs (x ∷ []) in rw (le-ltb 19 (5 + length vs) (omega arith)) (omega arith)
+
   arm-wide : (p o : ℕ) (vs : List ℕ) → length (exchangeNumbers p o vs) ≤ 19 → used (3 + length vs) ≡ length (exchangeNumbers p o vs)
   unfolding exchangeNumbers
   arm-wide p o vs h = rw (le-ltb 19 (3 + length vs) (omega arith)) (omega arith)
@@ -225,8 +229,14 @@ module _ (s t : List ℕ) where
       → Cut (k + 1) 0 (at + long (ownRows own within)) l → Cut k 0 at (ownRows own within ++ l)
   unfolding ownRows kind rowOf widthOf opens
   cut-own empty within k m at l a b c d = alone k at empty (0 ∷ []) l a c (λ h. refl) refl d
-  cut-own (send p o vs) within k m at l a b c d = alone k at (send p o vs) (1 ∷ exchangeNumbers p o vs) l a c (λ h. rw b (exchange-wide p o vs (omega arith))) refl d
-  cut-own (receive p o vs) within k m at l a b c d = alone k at (receive p o vs) (2 ∷ exchangeNumbers p o vs) l a c (λ h. rw b (exchange-wide p o vs (omega arith))) refl d
+  cut-own (send (toPartner p) o vs) within k m at l a b c d =
+      alone k at (send (toPartner p) o vs) (1 ∷ exchangeNumbers p o vs) l a c (λ h. rw b (exchange-wide p o vs (omega arith))) refl d
+  cut-own (send (toHeld v reply) o vs) within k m at l a b c d =
+      alone k at (send (toHeld v reply) o vs) (17 ∷ (exchangeNumbers v o vs ++ (reply ∷ []))) l a c (λ h. rw b (last-wide v o reply vs (omega arith))) refl d
+  cut-own (receive (fromPartner p) o vs) within k m at l a b c d =
+      alone k at (receive (fromPartner p) o vs) (2 ∷ exchangeNumbers p o vs) l a c (λ h. rw b (exchange-wide p o vs (omega arith))) refl d
+  cut-own (receive (fromAsking p v) o vs) within k m at l a b c d =
+      alone k at (receive (fromAsking p v) o vs) (18 ∷ (exchangeNumbers p o vs ++ (v ∷ []))) l a c (λ h. rw b (last-wide p o v vs (omega arith))) refl d
   cut-own (set v x) within k m at l a b c d = opening k at (set v x) (3 ∷ v ∷ []) x l a c refl refl d
   cut-own (raise zero) within k m at l a b c d = alone k at (raise zero) (4 ∷ []) l a c (λ h. refl) refl d
   cut-own (raise (suc n)) within k m at l a b c d = alone k at (raise (suc n)) (13 ∷ suc n ∷ []) l a c (λ h. refl) refl d
@@ -326,8 +336,10 @@ expression-rows (binary o l r) = omega (arith, length-append (expressionRows l) 
 own-rows : (own : Own) (within : ℕ) → length (ownRows own within) ≡ 1 + ownNodes own
 unfolding ownRows ownNodes
 own-rows empty within = refl
-own-rows (send p o vs) within = refl
-own-rows (receive p o vs) within = refl
+own-rows (send (toPartner p) o vs) within = refl
+own-rows (send (toHeld v reply) o vs) within = refl
+own-rows (receive (fromPartner p) o vs) within = refl
+own-rows (receive (fromAsking p v) o vs) within = refl
 own-rows (set v e) within = omega (arith, expression-rows e)
 own-rows (raise zero) within = refl
 own-rows (raise (suc n)) within = refl
@@ -439,8 +451,10 @@ between-append (suc m) n t k =
 own-between : (own : Own) (m at : ℕ) {k c : ℕ} → k ≡ kind own → c ≡ getD (rowOf own m at) 3 0 → cond (eqb k 14) (c + 1) 0 ≡ betweenOwn (numbersOf own)
 unfolding kind rowOf betweenOwn
 own-between empty m at e f = rw e
-own-between (send p o vs) m at e f = rw e
-own-between (receive p o vs) m at e f = rw e
+own-between (send (toPartner p) o vs) m at e f = rw e
+own-between (send (toHeld v reply) o vs) m at e f = rw e
+own-between (receive (fromPartner p) o vs) m at e f = rw e
+own-between (receive (fromAsking p v) o vs) m at e f = rw e
 own-between (set v x) m at e f = rw e
 own-between (raise zero) m at e f = rw e
 own-between (raise (suc n)) m at e f = rw e
@@ -533,6 +547,15 @@ small-exchange vars once p o vs k h =
       ),
     )
 
+-- the same behind another first number, with one number behind the variables
+exchange-small : (vars : ℕ) (once : Bool) (p o : ℕ) (vs : List ℕ) → exchangeWithin vars once p o vs ≡ true → p ≤ 4294967295
+exchange-small vars once p o vs h = omega (arith, ltb-true p 64 (exchange-of vars once p o vs h .partner))
+
+small-last : (vars : ℕ) (once : Bool) (a x p o : ℕ) (vs : List ℕ) → vars ≤ 16 → a ≤ 4294967295 → x ≤ 4294967295 → exchangeWithin vars once p o vs ≡ true
+    → Small (exchangeNumbers a o vs ++ (x ∷ []))
+unfolding exchangeNumbers Small
+small-last vars once a x p o vs k f g h = let y = small-exchange vars once p o vs k h in (f, small-append (o ∷ length vs ∷ vs) (x ∷ []) (y .1) (g, tt))
+
 -- a list's row
 listed : (code most : ℕ) → code ≤ 10 → most ≤ 32 → (arms : Bool) (within : ℕ) → (not arms && from1 most within) ≡ true → SmallRows ((code ∷ within ∷ []) ∷ [])
 unfolding SmallRows Small
@@ -547,10 +570,16 @@ module _ (vars : ℕ) (cs : List ℕ) (k : vars ≤ 16) where
   small-own : (handler arms : Bool) (own : Own) (within : ℕ) → ownWithin vars cs handler arms own within ≡ true → SmallRows (ownRows own within)
   unfolding SmallRows Small ownRows ownWithin
   small-own handler arms empty within h = ((omega arith, tt), tt)
-  small-own handler arms (send p o vs) within h =
+  small-own handler arms (send (toPartner p) o vs) within h =
       both (not arms) _ h (λ a h1. both (eqb within 0) _ h1 (λ b x. ((omega arith, small-exchange vars false p o vs k x), tt)))
-  small-own handler arms (receive p o vs) within h =
+  small-own handler arms (send (toHeld v reply) o vs) within h =
+      both (not arms) _ h (λ a h1. both (eqb within 0) _ h1 (λ b h2. both (ltb v vars) _ h2 (λ c x.
+      ((omega arith, small-last vars false v reply reply o vs k (omega (arith, ltb-true v vars c)) (exchange-small vars false reply o vs x) x), tt))))
+  small-own handler arms (receive (fromPartner p) o vs) within h =
       both (not arms) _ h (λ a h1. both (eqb within 0) _ h1 (λ b x. ((omega arith, small-exchange vars true p o vs k x), tt)))
+  small-own handler arms (receive (fromAsking p v) o vs) within h =
+      both (not arms) _ h (λ a h1. both (eqb within 0) _ h1 (λ b h2. both (exchangeWithin vars true p o vs) _ h2 (λ x h3. both (ltb v vars) _ h3 (λ c d.
+      ((omega arith, small-last vars true p v p o vs k (exchange-small vars true p o vs x) (omega (arith, ltb-true v vars c)) x), tt)))))
   small-own handler arms (set v e) within h =
       both (not arms) _ h (λ a h1. both (eqb within 0) _ h1 (λ b h2. both (ltb v vars) _ h2 (λ c h3. both (not (among v cs)) _ h3 (λ d x.
       ((omega arith, (omega (arith, ltb-true v vars c), tt)), small-expression vars e 8 k x)))))

@@ -1,6 +1,6 @@
 -- A table is refused with the number that its bytes earn, where each of its rows has the count that its code asks for. Both readers go side by side, row by
 -- row. Assumes nothing.
-use borrow.Author.Tests.{eq-eqb, ne-eqb, lt-ltb, le-ltb, le-leb, lt-leb, ltb-true, ltb-false, leb-true, leb-false, eqb-true, eqb-false}
+use borrow.Author.Tests.{eq-eqb, ne-eqb, lt-ltb, le-ltb, le-leb, lt-leb, ltb-true, ltb-false, leb-true, leb-false, eqb-true, eqb-false, not-false}
 use native.Mathlib.Omega.{arith}
 use mathlib.Core.Path.{_≡_, refl, sym, ap, subst, _∙_}
 use mathlib.Core.Bool.{Bool, true, false, cond, not, _&&_, _||_, false≢true, and-true}
@@ -16,13 +16,14 @@ use Rattle.numbers.proofs.Laws.{shortest-is-read, shortest-long}
 use Rattle.plan.specs.Agree.{Asked, agreesWith, agreeAfter, agree, asked, askedFrom, judged}
 use Rattle.plan.specs.Found.{Found, refused, found, andThen, numberIn, fieldIn, among}
 use Rattle.plan.specs.Spell.{spell}
-use Rattle.plan.specs.Tree.{Exp, Own, send, receive, set, choose, repeat, sequence, flow, pick, arm, isPick, Act, Plan, size}
-use Rattle.plan.specs.Read.{expressionCodeIn, leafIn, expressionIn, variablesIn, tupleIn, Head, head, exchangeIn, armIn, partnerIn, withExpressionIn, setIn, listIn, raiseIn, namable, faultNumberIn, isScopeCode, codeIn, partsIn, headIn, manyIn, numberedHead, numberedIn, numberedScopeIn, wholeIn, readArm, readsIn, laterOf, readAct, startForm, correlationIn, versionIn, closing, rootIn, readAny, readPlan}
+use Rattle.plan.specs.Tree.{Exp, Own, toPartner, toHeld, fromPartner, fromAsking, send, receive, set, choose, repeat, sequence, flow, pick, arm, isPick, Act, Plan, size}
+use Rattle.plan.specs.Read.{expressionCodeIn, leafIn, expressionIn, variablesIn, tupleIn, Head, head, exchangeIn, armIn, partnerIn, heldSendIn, askingReceiveIn, withExpressionIn, setIn, listIn, raiseIn, namable, faultNumberIn, isCode, isScopeCode, codeIn, partsIn, headIn, manyIn, numberedHead, numberedIn, numberedScopeIn, wholeIn, readArm, readsIn, laterOf, readAct, startForm, correlationIn, versionIn, closing, rootIn, readAny, readPlan}
 use Rattle.plan.specs.Within.{variablesWithin, from1, ascending}
 use Rattle.plan.proofs.Accepts.{both, among-append}
 use Rattle.plan.proofs.Agreeing.{judged-agrees}
+use Rattle.plan.proofs.ByKind.{last-code}
 use Rattle.writer.specs.Rows.{used, rowNumbers, numbersFrom, numbersOf}
-use Rattle.writer.specs.Reading.{cell, shaped, rowIn, expressionFits, expressionHead, expressionAt, tuple, exchangeFits, armAt, codeAt, partsFit, withExpression, partsAt, headAt, countAt, faultNumberAt, numberedAt, numberedScopeAt, wholeAt, armWith, readsAt, actAt, closingAt, rootAt, headFits, planAt, inRows, agreedAt, readRows}
+use Rattle.writer.specs.Reading.{cell, shaped, rowIn, expressionFits, expressionHead, expressionAt, tuple, exchangeFits, lastOf, storesReply, armAt, codeAt, partsFit, withExpression, partsAt, headAt, countAt, faultNumberAt, numberedAt, numberedScopeAt, wholeAt, armWith, readsAt, actAt, closingAt, rootAt, headFits, planAt, inRows, agreedAt, readRows}
 use Rattle.writer.proofs.Lines.{cells-cons}
 use Rattle.writer.proofs.WriteReturns.{rows-spell}
 use Rattle.rows.proofs.SamePlaces.{rows-agree}
@@ -154,7 +155,8 @@ module _ (t s : List ℕ) (words : Words t) where
   asks-some aHead r = omega arith
   asks-some anActivity r =
       cond-some (eqb (cell t r 1) 1 || eqb (cell t r 1) 2) _ _ (omega arith)
-      (cond-some (eqb (cell t r 1) 3 || (eqb (cell t r 1) 8 || (eqb (cell t r 1) 9 || (eqb (cell t r 1) 10 || eqb (cell t r 1) 13)))) 2 1 (omega arith) (omega arith))
+      (cond-some (eqb (cell t r 1) 17 || eqb (cell t r 1) 18) _ _ (omega arith)
+      (cond-some (eqb (cell t r 1) 3 || (eqb (cell t r 1) 8 || (eqb (cell t r 1) 9 || (eqb (cell t r 1) 10 || eqb (cell t r 1) 13)))) 2 1 (omega arith) (omega arith)))
   asks-some anArm r = omega arith
   asks-some anExpression r = cond-some (leb (cell t r 1) 1) 2 1 (omega arith) (omega arith)
   asks-some aCount r = omega arith
@@ -262,23 +264,27 @@ module _ (t s : List ℕ) (words : Words t) where
   ok vars once read [] = true
   ok vars once read (v ∷ l) = ltb v vars && (not (once && among v read) && ok vars once (read ++ (v ∷ [])) l)
 
-  -- what is read of them: all, up to the end of the row; or 5
-  data Tuple (ps : List Part) (r : ℕ) (good : Bool) (vs : List ℕ) : Found (List ℕ) → Type 0 where
-    all : {q : ℕ} → good ≡ true → Here ps (r + 1) q → Tuple ps r good vs (found vs q)
-    wrong : {place : ℕ} → good ≡ false → Tuple ps r good vs (refused 5 place)
+  -- what is read of them: all, up to place d of the row, where `behind` numbers are left; or 5
+  data Tuple (ps : List Part) (r d behind : ℕ) (good : Bool) (vs : List ℕ) : Found (List ℕ) → Type 0 where
+    all : {q : ℕ} → good ≡ true → Inside ps r d behind q → Tuple ps r d behind good vs (found vs q)
+    wrong : {place : ℕ} → good ≡ false → Tuple ps r d behind good vs (refused 5 place)
 
-  variables-meet : (vars : ℕ) (once : Bool) (left : ℕ) (read : List ℕ) {ps : List Part} {r c q : ℕ} → Inside ps r c left q
-      → (l : List ℕ) → take left (drop (r * 20 + c) t) ≡ l → Tuple ps r (ok vars once read l) (read ++ l) (variablesIn vars once s left read q)
+  inside-at : {ps : List Part} {r c d k j q : ℕ} → c ≡ d → k ≡ j → Inside ps r c k q → Inside ps r d j q
+  inside-at {ps} {r} {c} {d} {k} {j} {q} e f w = subst (λ (i : ℕ). Inside ps r i j q) e (subst (λ (m : ℕ). Inside ps r c m q) f w)
+
+  variables-meet : (vars : ℕ) (once : Bool) (left behind : ℕ) (read : List ℕ) {ps : List Part} {r c d k q : ℕ} → Inside ps r c k q → k ≡ left + behind → c + left ≡ d
+      → (l : List ℕ) → take left (drop (r * 20 + c) t) ≡ l → Tuple ps r d behind (ok vars once read l) (read ++ l) (variablesIn vars once s left read q)
   unfolding variablesIn ok
-  variables-meet vars once zero read w l e = rw (sym e, append-nil read) (all refl (leaves w))
-  variables-meet vars once (suc left) read {ps} {r} {c} {q} w l e =
+  variables-meet vars once zero behind read w f g l e = rw (sym e, append-nil read) (all refl (inside-at (omega arith) (omega arith) w))
+  variables-meet vars once (suc left) behind read {ps} {r} {c} {d} {k} {q} u f g l e =
+      let w : Inside ps r c (suc (left + behind)) q = inside-at refl (omega arith) u in
       let x = cell-read w in
       let v = cell t r c in
       let a : cell t r c ∷ take left (drop (r * 20 + (c + 1)) t) ≡ l = sym (cells-cons t r c left (omega (arith, w .rows)) (omega (arith, w .room))) ∙ e in
       rw (sym a, field-read x 0 vars, never-less v)
       (decide (ltb v vars)
       (λ i. rw (i, below v vars .0 i) (decide (once && among v read) (λ j. rw j (wrong refl))
-      (λ j. rw (j, sym (append-assoc read (v ∷ []) (take left (drop (r * 20 + (c + 1)) t)))) (variables-meet vars once left (read ++ (v ∷ [])) (x .inside) _ refl))))
+      (λ j. rw (j, sym (append-assoc read (v ∷ []) (take left (drop (r * 20 + (c + 1)) t)))) (variables-meet vars once left behind (read ++ (v ∷ [])) (x .inside) refl (omega arith) _ refl))))
       (λ i. rw (i, below v vars .1 i) (wrong refl)))
 
   -- whether each may stand there does not depend on the way it is asked: by those before, or by those behind
@@ -365,18 +371,19 @@ module _ (t s : List ℕ) (words : Words t) where
   meets-heads (met {a = a} h) g d e = head-met (d a) (here-as (e a) h)
   meets-heads same g d e = head-same
 
-  tuple-heads : {f : Own → Part} {ps qs : List Part} {r : ℕ} {good : Bool} {vs : List ℕ} {x : Found (List ℕ)} → Tuple qs r good vs x → (g : List ℕ → Head) → ((us : List ℕ) → g us .numbered ≡ false)
-      → ((us : List ℕ) → qs ≡ replicate (g us .within) (f (g us .own)) ++ ps)
-      → Heads f ps (cond good (found (g vs) (r + 1)) (refused 5 r)) (andThen x (λ us q. found (g us) q))
-  tuple-heads {vs = vs} (all e h) g i d = rw e (head-met (i vs) (here-as (d vs) h))
-  tuple-heads (wrong e) g i d = rw e head-same
+  tuple-then : {f : Own → Part} {ps qs : List Part} {r d behind : ℕ} {fits : Bool} {vs : List ℕ} {x : Found (List ℕ)} → Tuple qs r d behind fits vs x
+      → (good : Bool) (h : Found Head) (g : List ℕ → ℕ → Found Head) → ((p : ℕ) → Inside qs r d behind p → Heads f ps (cond good h (refused 5 r)) (g vs p))
+      → Heads f ps (cond (fits && good) h (refused 5 r)) (andThen x g)
+  tuple-then (all e i) good h g k = rw e (k _ i)
+  tuple-then (wrong e) good h g k = rw e head-same
 
-  -- the numbers of a send, a receive or an arm from the operation on
-  exchange-heads : (f : Own → Part) (ps : List Part) (vars : ℕ) (once : Bool) (own : ℕ → List ℕ → Own) (within c : ℕ) {qs : List Part} {r q k : ℕ} → Inside qs r c (suc (suc k)) q
-      → (cell t r (c + 1) ≤ 4 → k ≡ cell t r (c + 1)) → shaped t r (c + 1 + cell t r (c + 1)) ≡ true → ((o : ℕ) (us : List ℕ) → qs ≡ replicate within (f (own o us)) ++ ps)
-      → Heads f ps (cond (exchangeFits vars once t r c) (found (head (own (cell t r c) (tuple t r (c + 1))) within) (r + 1)) (refused 5 r)) (exchangeIn vars once s own within q)
-  unfolding exchangeFits exchangeIn tupleIn fieldIn
-  exchange-heads f ps vars once own within c {qs} {r} {q} {k} w m sh d =
+  -- the numbers of a send, a receive or an arm from the operation on, and `behind` more, whose rule is `good`
+  exchange-then : (f : Own → Part) (ps : List Part) (vars : ℕ) (once : Bool) (c behind : ℕ) {qs : List Part} {r q k : ℕ} → Inside qs r c (suc (suc k)) q
+      → (cell t r (c + 1) ≤ 4 → k ≡ cell t r (c + 1) + behind) → shaped t r (c + 1 + cell t r (c + 1) + behind) ≡ true → (good : Bool) (h : Found Head) (g : ℕ → List ℕ → ℕ → Found Head)
+      → ((p : ℕ) → Inside qs r (c + 2 + cell t r (c + 1)) behind p → Heads f ps (cond good h (refused 5 r)) (g (cell t r c) (tuple t r (c + 1)) p))
+      → Heads f ps (cond (exchangeFits vars once t r c behind && good) h (refused 5 r)) (andThen (fieldIn s 0 64 q) (λ o p. andThen (tupleIn vars once s p) (λ us a. g o us a)))
+  unfolding exchangeFits tupleIn fieldIn
+  exchange-then f ps vars once c behind {qs} {r} {q} {k} w m sh good h g d =
       rw (x .is, never-less v)
       (decide (ltb v 64) (λ i. rw (i, below v 64 .0 i) counts) (λ i. rw (i, below v 64 .1 i) head-same))
     where
@@ -395,22 +402,34 @@ module _ (t s : List ℕ) (words : Words t) where
       vs : List ℕ
       vs = tuple t r (c + 1)
 
-      read : leb n 4 ≡ true → Tuple qs r (variablesWithin vars once vs) vs (variablesIn vars once s n [] (y .next))
+      read : leb n 4 ≡ true → Tuple qs r (c + 2 + n) behind (variablesWithin vars once vs) vs (variablesIn vars once s n [] (y .next))
       read j =
           let z : r * 20 + (c + 1 + 1) ≡ r * 20 + (c + 1) + 1 = omega arith in
-          subst (λ (b : Bool). Tuple qs r b vs (variablesIn vars once s n [] (y .next))) (ok-within vars once vs)
-          (variables-meet vars once n [] (inside-as refl (m (leb-true n 4 j)) (y .inside)) vs (ap (λ (i : ℕ). take n (drop i t)) z))
+          let e : c + 1 + 1 + n ≡ c + 2 + n = omega arith in
+          subst (λ (b : Bool). Tuple qs r (c + 2 + n) behind b vs (variablesIn vars once s n [] (y .next))) (ok-within vars once vs)
+          (variables-meet vars once n behind [] (y .inside) (m (leb-true n 4 j)) e vs (ap (λ (i : ℕ). take n (drop i t)) z))
 
-      counts : Heads f ps (cond (from1 4 n && (variablesWithin vars once vs && shaped t r (c + 1 + n))) (found (head (own v vs) within) (r + 1)) (refused 5 r))
+      counts : Heads f ps (cond ((from1 4 n && (variablesWithin vars once vs && shaped t r (c + 1 + n + behind))) && good) h (refused 5 r))
           (andThen (andThen (andThen (numberIn s (x .next)) (λ value next. cond (ltb value 1 || leb 5 value) (refused 5 (x .next)) (found value next))) (λ count next. variablesIn vars once s count [] next))
-          (λ us q. found (head (own v us) within) q))
+          (λ us a. g v us a))
       counts =
           rw (y .is)
           (decide (leb 1 n)
           (λ i. decide (leb n 4)
-          (λ j. rw (i, j, le-ltb n 1 (leb-true 1 n i), lt-leb 5 n (omega (arith, leb-true n 4 j)), sh, and-true (variablesWithin vars once vs)) (tuple-heads (read j) (λ us. head (own v us) within) (λ us. refl) (d v)))
+          (λ j. rw (i, j, le-ltb n 1 (leb-true 1 n i), lt-leb 5 n (omega (arith, leb-true n 4 j)), sh, and-true (variablesWithin vars once vs)) (tuple-then (read j) good h (g v) d))
           (λ j. rw (i, j, le-ltb n 1 (leb-true 1 n i), le-leb 5 n (omega (arith, leb-false n 4 j))) head-same))
           (λ i. rw (i, lt-ltb n 1 (omega (arith, leb-false 1 n i))) head-same))
+
+  -- with none behind them
+  exchange-heads : (f : Own → Part) (ps : List Part) (vars : ℕ) (once : Bool) (own : ℕ → List ℕ → Own) (within c : ℕ) {qs : List Part} {r q k : ℕ} → Inside qs r c (suc (suc k)) q
+      → (cell t r (c + 1) ≤ 4 → k ≡ cell t r (c + 1)) → shaped t r (c + 1 + cell t r (c + 1)) ≡ true → ((o : ℕ) (us : List ℕ) → qs ≡ replicate within (f (own o us)) ++ ps)
+      → Heads f ps (cond (exchangeFits vars once t r c 0) (found (head (own (cell t r c) (tuple t r (c + 1))) within) (r + 1)) (refused 5 r)) (exchangeIn vars once s own within q)
+  unfolding exchangeIn
+  exchange-heads f ps vars once own within c {r = r} w m sh d =
+      let z : c + 1 + cell t r (c + 1) + 0 ≡ c + 1 + cell t r (c + 1) = omega arith in
+      rw (and-true (exchangeFits vars once t r c 0)) at
+      (exchange-then f ps vars once c 0 w (λ i. omega (arith, m i)) (rw z sh) true (found (head (own (cell t r c) (tuple t r (c + 1))) within) (r + 1)) (λ o us p. found (head (own o us) within) p)
+      (λ p i. head-met refl (here-as (d (cell t r c) (tuple t r (c + 1))) (leaves i))))
 
   -- how many numbers of a row are left behind its first ones
   used-low : (m : ℕ) → m ≤ 19 → used m ≡ m
@@ -503,7 +522,7 @@ module _ (t s : List ℕ) (words : Words t) where
     -- a send or a receive
     partner-heads : (once : Bool) (own : ℕ → ℕ → List ℕ → Own) (k : ℕ) → shaped t r (4 + cell t r 4) ≡ true
         → used (4 + cell t r 4) ≡ suc k → Inside ps r 2 k q
-        → Heads within-of ps (cond (ltb (cell t r 2) 64 && exchangeFits vars once t r 3) (found (head (own (cell t r 2) (cell t r 3) (tuple t r 4)) 0) (r + 1)) (refused 5 r)) (partnerIn vars once s own q)
+        → Heads within-of ps (cond (ltb (cell t r 2) 64 && exchangeFits vars once t r 3 0) (found (head (own (cell t r 2) (cell t r 3) (tuple t r 4)) 0) (r + 1)) (refused 5 r)) (partnerIn vars once s own q)
     unfolding partnerIn fieldIn
     partner-heads once own k sh e w =
         let v = cell t r 2 in
@@ -518,11 +537,64 @@ module _ (t s : List ℕ) (words : Words t) where
 
     coded-send : Coded 1
     unfolding activityAsks activityHas partsFit partsAt partsIn
-    coded-send k sh e w = partner-heads false send k sh e w
+    coded-send k sh e w = partner-heads false (λ p. send (toPartner p)) k sh e w
 
     coded-receive : Coded 2
     unfolding activityAsks activityHas partsFit partsAt partsIn
-    coded-receive k sh e w = partner-heads true receive k sh e w
+    coded-receive k sh e w = partner-heads true (λ p. receive (fromPartner p)) k sh e w
+
+    -- the number behind the variables: a reply partner, and a reply variable
+    held-heads : (v : ℕ) {p : ℕ} → Inside ps r (5 + cell t r 4) 1 p
+        → Heads within-of ps (cond (ltb (lastOf t r 4) 64) (found (head (send (toHeld v (lastOf t r 4)) (cell t r 3) (tuple t r 4)) 0) (r + 1)) (refused 5 r))
+        (andThen (fieldIn s 0 64 p) (λ reply next. found (head (send (toHeld v reply) (cell t r 3) (tuple t r 4)) 0) next))
+    unfolding fieldIn
+    held-heads v i =
+        let l = lastOf t r 4 in
+        let x = cell-read i in
+        rw (x .is, never-less l)
+        (decide (ltb l 64) (λ j. rw (j, below l 64 .0 j) (head-met refl (leaves (x .inside)))) (λ j. rw (j, below l 64 .1 j) head-same))
+
+    asking-heads : (v : ℕ) {p : ℕ} → Inside ps r (5 + cell t r 4) 1 p
+        → Heads within-of ps (cond (storesReply vars cs t r) (found (head (receive (fromAsking v (lastOf t r 4)) (cell t r 3) (tuple t r 4)) 0) (r + 1)) (refused 5 r))
+        (andThen (fieldIn s 0 vars p) (λ x next. cond (among x cs || among x (tuple t r 4)) (refused 5 p) (found (head (receive (fromAsking v x) (cell t r 3) (tuple t r 4)) 0) next)))
+    unfolding fieldIn
+    asking-heads v i =
+        let l = lastOf t r 4 in
+        let x = cell-read i in
+        rw (x .is, never-less l)
+        (decide (ltb l vars)
+        (λ j. rw (j, below l vars .0 j) (decide (among l cs || among l (tuple t r 4)) (λ m. rw m head-same) (λ m. rw m (head-met refl (leaves (x .inside))))))
+        (λ j. rw (j, below l vars .1 j) head-same))
+
+    -- a send or a receive with such a number; `limit` is that of its first part
+    module _ (k limit : ℕ) (once : Bool) (sh : shaped t r (5 + cell t r 4) ≡ true) (e : used (5 + cell t r 4) ≡ suc k) (w : Inside ps r 2 k q) (good : Bool) (h : Found Head)
+        (g : ℕ → ℕ → List ℕ → ℕ → Found Head) (d : (p : ℕ) → Inside ps r (5 + cell t r 4) 1 p → Heads within-of ps (cond good h (refused 5 r)) (g (cell t r 2) (cell t r 3) (tuple t r 4) p)) where
+      last-heads : Heads within-of ps (cond (ltb (cell t r 2) limit && (exchangeFits vars once t r 3 1 && good)) h (refused 5 r))
+          (andThen (fieldIn s 0 limit q) (λ v p. andThen (fieldIn s 0 64 p) (λ o a. andThen (tupleIn vars once s a) (λ us b. g v o us b))))
+      unfolding fieldIn
+      last-heads =
+          let v = cell t r 2 in
+          let l = used-least 5 (5 + cell t r 4) (omega arith) (omega arith) in
+          let j : k ≡ suc (suc (suc (k - 3))) = omega arith in
+          let z : 4 + cell t r 4 + 1 ≡ 5 + cell t r 4 = omega arith in
+          let x = cell-read (inside-as refl j w) in
+          rw (x .is, never-less v)
+          (decide (ltb v limit)
+          (λ i. rw (i, below v limit .0 i)
+          (exchange-then within-of ps vars once 3 1 (x .inside) (λ m. let y = used-low (5 + cell t r 4) (omega (arith, m)) in omega (arith, e, y)) (rw z sh) good h (g v) d))
+          (λ i. rw (i, below v limit .1 i) head-same))
+
+    coded-held : Coded 17
+    unfolding activityAsks activityHas partsFit partsAt partsIn heldSendIn
+    coded-held k sh e w =
+        last-heads k vars false sh e w (ltb (lastOf t r 4) 64) (found (head (send (toHeld (cell t r 2) (lastOf t r 4)) (cell t r 3) (tuple t r 4)) 0) (r + 1))
+        (λ v o us a. andThen (fieldIn s 0 64 a) (λ reply next. found (head (send (toHeld v reply) o us) 0) next)) (λ p i. held-heads (cell t r 2) i)
+
+    coded-asking : Coded 18
+    unfolding activityAsks activityHas partsFit partsAt partsIn askingReceiveIn
+    coded-asking k sh e w =
+        last-heads k 64 true sh e w (storesReply vars cs t r) (found (head (receive (fromAsking (cell t r 2) (lastOf t r 4)) (cell t r 3) (tuple t r 4)) 0) (r + 1))
+        (λ v o us a. andThen (fieldIn s 0 vars a) (λ x next. cond (among x cs || among x us) (refused 5 a) (found (head (receive (fromAsking v x) o us) 0) next))) (λ p i. asking-heads (cell t r 2) i)
 
     -- a raise with its number
     coded-number : Coded 13
@@ -574,7 +646,11 @@ module _ (t s : List ℕ) (words : Words t) where
     unfolding activityAsks activityHas partsFit partsAt partsIn
     coded-pick k sh e w = list-heads pick 8 k sh e w
 
-    coded : (c : ℕ) → c ≤ 14 → Coded c
+    coded-late : (c : ℕ) → isCode c ≡ true → 14 < c → Coded c
+    coded-late c h l =
+        decide (eqb c 17) (λ i. subst (λ (n : ℕ). Coded n) (sym (eqb-true c 17 i)) coded-held) (λ i. subst (λ (n : ℕ). Coded n) (sym (last-code c h l i)) coded-asking)
+
+    coded : (c : ℕ) → isCode c ≡ true → Coded c
     coded zero h = coded-empty
     coded (suc zero) h = coded-send
     coded (suc (suc zero)) h = coded-receive
@@ -590,7 +666,7 @@ module _ (t s : List ℕ) (words : Words t) where
     coded (suc (suc (suc (suc (suc (suc (suc (suc (suc (suc (suc (suc zero)))))))))))) h = coded-open
     coded (suc (suc (suc (suc (suc (suc (suc (suc (suc (suc (suc (suc (suc zero))))))))))))) h = coded-number
     coded (suc (suc (suc (suc (suc (suc (suc (suc (suc (suc (suc (suc (suc (suc zero)))))))))))))) h = coded-numbered
-    coded (suc (suc (suc (suc (suc (suc (suc (suc (suc (suc (suc (suc (suc (suc (suc n))))))))))))))) h = absurd (omega arith)
+    coded (suc (suc (suc (suc (suc (suc (suc (suc (suc (suc (suc (suc (suc (suc (suc n))))))))))))))) h = coded-late (suc (suc (suc (suc (suc (suc (suc (suc (suc (suc (suc (suc (suc (suc (suc n))))))))))))))) h (omega arith)
 
   -- an activity before those within it
   activity-heads : (vars : ℕ) (cs : List ℕ) (handler : Bool) (depth n : ℕ) (ps : List Part) (r q : ℕ) → Here (anActivity ∷ ps) r q
@@ -602,10 +678,10 @@ module _ (t s : List ℕ) (words : Words t) where
       go (ends a b) = rw (a, b) head-same
       go (begins w a k e x) =
           rw (a, x .is)
-          (decide (ltb 14 (cell t r 1)) (λ i. rw i head-same)
+          (decide (not (isCode (cell t r 1))) (λ i. rw i head-same)
           (λ i. rw i (decide (handler && isScopeCode (cell t r 1)) (λ j. rw j head-same)
           (λ j. rw j (decide (eqb depth 0 || leb 256 n) (λ b. rw b head-same)
-          (λ b. rw b (coded vars cs ps r (x .next) (cell t r 1) (ltb-false 14 (cell t r 1) i) k (w .shape) e (x .inside))))))))
+          (λ b. rw b (coded vars cs ps r (x .next) (cell t r 1) (not-false (isCode (cell t r 1)) i) k (w .shape) e (x .inside))))))))
 
   -- Those within: two readers of one that go side by side.
   abbrev Ones : Part → (one two : Bool → ℕ → ℕ → Found Act) → Type 0
@@ -701,11 +777,11 @@ module _ (t s : List ℕ) (words : Words t) where
       (λ u v i. scope-meets (actAt depth vars cs t) (readAct depth vars cs s) (activity-meets depth vars cs) handler n ps u v i)
 
   -- The head: its correlation variables, each below `vars` and above the one before.
-  correlation-meet : (vars : ℕ) (left least : ℕ) (read : List ℕ) {ps : List Part} {r c q : ℕ} → Inside ps r c left q
-      → (l : List ℕ) → take left (drop (r * 20 + c) t) ≡ l → Tuple ps r (ascending vars least l) (read ++ l) (correlationIn vars s left least read q)
+  correlation-meet : (vars : ℕ) (left least : ℕ) (read : List ℕ) {ps : List Part} {r c d q : ℕ} → Inside ps r c left q → c + left ≡ d
+      → (l : List ℕ) → take left (drop (r * 20 + c) t) ≡ l → Tuple ps r d 0 (ascending vars least l) (read ++ l) (correlationIn vars s left least read q)
   unfolding correlationIn ascending fieldIn
-  correlation-meet vars zero least read w l e = rw (sym e, append-nil read) (all refl (leaves w))
-  correlation-meet vars (suc left) least read {ps} {r} {c} {q} w l e =
+  correlation-meet vars zero least read w g l e = rw (sym e, append-nil read) (all refl (inside-at (omega arith) refl w))
+  correlation-meet vars (suc left) least read {ps} {r} {c} {d} {q} w g l e =
       let x = cell-read w in
       let v = cell t r c in
       let a : cell t r c ∷ take left (drop (r * 20 + (c + 1)) t) ≡ l = sym (cells-cons t r c left (omega (arith, w .rows)) (omega (arith, w .room))) ∙ e in
@@ -713,7 +789,7 @@ module _ (t s : List ℕ) (words : Words t) where
       (decide (leb least v)
       (λ i. rw (i, le-ltb v least (leb-true least v i))
       (decide (ltb v vars)
-      (λ j. rw (j, below v vars .0 j, sym (append-assoc read (v ∷ []) (take left (drop (r * 20 + (c + 1)) t)))) (correlation-meet vars left (v + 1) (read ++ (v ∷ [])) (x .inside) _ refl))
+      (λ j. rw (j, below v vars .0 j, sym (append-assoc read (v ∷ []) (take left (drop (r * 20 + (c + 1)) t)))) (correlation-meet vars left (v + 1) (read ++ (v ∷ [])) (x .inside) (omega arith) _ refl))
       (λ j. rw (j, below v vars .1 j) (wrong refl))))
       (λ i. rw (i, lt-ltb v least (leb-false least v i)) (wrong refl)))
 
@@ -749,9 +825,9 @@ module _ (t s : List ℕ) (words : Words t) where
         meets-then (activity-meets 16 vars cs true (size b) [] u v i) (λ f y z d.
         closing-meets (record { variables = vars; correlation = cs; body = b; fault = f }) r q y z d))
 
-    tuple-root : (vars : ℕ) {good : Bool} {cs : List ℕ} {x : Found (List ℕ)} → Tuple (anActivity ∷ anActivity ∷ []) 0 good cs x
+    tuple-root : (vars : ℕ) {d : ℕ} {good : Bool} {cs : List ℕ} {x : Found (List ℕ)} → Tuple (anActivity ∷ anActivity ∷ []) 0 d 0 good cs x
         → Meets [] (cond good (rootAt vars cs t 1) (refused 5 0)) (andThen x (λ us q. rootIn vars us s q))
-    tuple-root vars {cs = cs} (all {q} e h) = rw e (root-meets vars cs 1 q h)
+    tuple-root vars {cs = cs} (all {q} e h) = rw e (root-meets vars cs 1 q (leaves h))
     tuple-root vars (wrong e) = rw e same
 
     -- the head, and the whole
@@ -787,7 +863,7 @@ module _ (t s : List ℕ) (words : Words t) where
             (λ d. let f : leb (v + 1) n ≡ false = lt-leb (v + 1) n (omega (arith, leb-true n v d)) in
             let g : k - 2 ≡ n = (let m = used-low (3 + n) (omega (arith, leb-true n v d, leb-true v 16 c)) in omega (arith, e, m)) in
             rw (d, f, w .shape, and-true (ascending v 0 (tuple t 0 3)))
-            (tuple-root v (correlation-meet v n 0 [] (inside-as refl g (z .inside)) (tuple t 0 3) refl)))
+            (tuple-root v (correlation-meet v n 0 [] (inside-as refl g (z .inside)) refl (tuple t 0 3) refl)))
             (λ d. let f : leb (v + 1) n ≡ true = le-leb (v + 1) n (omega (arith, leb-false n v d)) in rw (d, f) same)))
             (λ c. rw (b, c, le-ltb v 1 (leb-true 1 v b), le-leb 17 v (omega (arith, leb-false v 16 c))) same))
             (λ b. rw (b, lt-ltb v 1 (omega (arith, leb-false 1 v b))) same)))

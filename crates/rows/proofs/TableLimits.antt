@@ -10,19 +10,19 @@ use lib.Dec.{eqb, ltb, leb}
 use lib.ListN.{length, getD, take, drop}
 use Rattle.plan.specs.Agree.{askedFrom, agree, judged}
 use Rattle.plan.specs.Found.{Found, refused, found, andThen, among}
-use Rattle.plan.specs.Read.{operationOf, Head, head, namable, isScopeCode, manyIn, Numbered, laterOf, startForm, readPlan}
+use Rattle.plan.specs.Read.{operationOf, Head, head, namable, isCode, isScopeCode, manyIn, Numbered, laterOf, startForm, readPlan}
 use Rattle.plan.specs.Spell.{spelling}
-use Rattle.plan.specs.Tree.{Exp, constant, variable, binary, Own, empty, send, receive, set, raise, leave, choose, repeat, sequence, flow, pick, scope, arm, isScope, isPick, Act, act, Acts, none, more, Plan, size, sizes, count}
+use Rattle.plan.specs.Tree.{Exp, constant, variable, binary, Own, empty, toPartner, toHeld, fromPartner, fromAsking, send, receive, set, raise, leave, choose, repeat, sequence, flow, pick, scope, arm, isScope, isPick, Act, act, Acts, none, more, Plan, size, sizes, count}
 use Rattle.plan.specs.Within.{expressionWithin, variablesWithin, exchangeWithin, from1, raiseWithin, numbersEach, numbersWithin, ownWithin, levelsBelow, actWithin, actsWithin, ascending, planWithin}
 use Rattle.plan.proofs.Accepts.{both}
-use Rattle.plan.proofs.ByKind.{raise-allowed}
+use Rattle.plan.proofs.ByKind.{raise-allowed, last-code}
 use Rattle.plan.proofs.Agreeing.{judged-found, spelled-is-accepted}
 use Rattle.plan.proofs.Bounds.{many-numbered}
 use Rattle.plan.proofs.Bounds as bounds
 use Rattle.plan.proofs.Limits.{Others, others-itself, others-more, numbers-allowed}
 use Rattle.plan.proofs.Finds.{Finds, finds-refused, finds-itself, finds-found, finds-cond, finds-code, finds-then, finds-so, finds-both, cond-case}
 use Rattle.plan.proofs.Stands.{Plain, HeadIs, plain, numbered, many-count}
-use Rattle.writer.specs.Reading.{cell, shaped, tuple, rowIn, expressionFits, expressionHead, expressionAt, exchangeFits, armAt, codeAt, partsFit, withExpression, partsAt, headAt, countAt, faultNumberAt, numberedAt, numberedScopeAt, wholeAt, armWith, readsAt, actAt, rootAt, headFits, planAt, inRows, agreedAt, readRows}
+use Rattle.writer.specs.Reading.{cell, shaped, tuple, rowIn, expressionFits, expressionHead, expressionAt, exchangeFits, lastOf, storesReply, armAt, codeAt, partsFit, withExpression, partsAt, headAt, countAt, faultNumberAt, numberedAt, numberedScopeAt, wholeAt, armWith, readsAt, actAt, rootAt, headFits, planAt, inRows, agreedAt, readRows}
 use Rattle.writer.proofs.Lines.{tuple-long}
 use Rattle.writer.proofs.WriteReturns.{agreed-is-read}
 use Rattle.writer.proofs.OwnReturns.{There, row-finds, Coded, code-finds, head-is, arm-plain}
@@ -68,10 +68,10 @@ module _ (t : List ℕ) (words : Words t) where
       finds-then (expression-within d vars p) (λ right q y.
       finds-found (rw (lt-ltb 0 (suc d) (omega arith), sub-one (suc d), x, y)))))))
 
-  exchange-within : (vars : ℕ) (once : Bool) (r c p : ℕ) → r < length t / 20 → c ≤ 3 → ltb p 64 ≡ true → exchangeFits vars once t r c ≡ true
+  exchange-within : (vars : ℕ) (once : Bool) (r c behind p : ℕ) → r < length t / 20 → c ≤ 3 → ltb p 64 ≡ true → exchangeFits vars once t r c behind ≡ true
       → exchangeWithin vars once p (cell t r c) (tuple t r (c + 1)) ≡ true
   unfolding exchangeFits exchangeWithin
-  exchange-within vars once r c p there l h k =
+  exchange-within vars once r c behind p there l h k =
       both (ltb (cell t r c) 64) _ k (λ a k1. both (from1 4 (cell t r (c + 1))) _ k1 (λ b k2.
       both (leb 1 (cell t r (c + 1))) _ b (λ b1 b2. both (variablesWithin vars once (tuple t r (c + 1))) _ k2 (λ d s.
       let m = leb-true (cell t r (c + 1)) 4 b2 in
@@ -87,9 +87,21 @@ module _ (t : List ℕ) (words : Words t) where
     unfolding withExpression
     with-within own within next f = finds-then (expression-within 8 vars next) (λ e q x. finds-found (f e x))
 
-    message-within : (r k next : ℕ) → There t r k next → (once : Bool) → (ltb (cell t r 2) 64 && exchangeFits vars once t r 3) ≡ true
+    message-within : (r k next : ℕ) → There t r k next → (once : Bool) → (ltb (cell t r 2) 64 && exchangeFits vars once t r 3 0) ≡ true
         → exchangeWithin vars once (cell t r 2) (cell t r 3) (tuple t r 4) ≡ true
-    message-within r k next w once h = both (ltb (cell t r 2) 64) _ h (λ a b. exchange-within vars once r 3 (cell t r 2) (w .there) (omega arith) a b)
+    message-within r k next w once h = both (ltb (cell t r 2) 64) _ h (λ a b. exchange-within vars once r 3 0 (cell t r 2) (w .there) (omega arith) a b)
+
+    held-within : (r k next : ℕ) → There t r k next → (ltb (cell t r 2) vars && (exchangeFits vars false t r 3 1 && ltb (lastOf t r 4) 64)) ≡ true
+        → (ltb (cell t r 2) vars && exchangeWithin vars false (lastOf t r 4) (cell t r 3) (tuple t r 4)) ≡ true
+    held-within r k next w h =
+        both (ltb (cell t r 2) vars) _ h (λ a h1. both (exchangeFits vars false t r 3 1) _ h1 (λ b c.
+        rw (a, exchange-within vars false r 3 1 (lastOf t r 4) (w .there) (omega arith) c b)))
+
+    asking-within : (r k next : ℕ) → There t r k next → (ltb (cell t r 2) 64 && (exchangeFits vars true t r 3 1 && storesReply vars cs t r)) ≡ true
+        → (exchangeWithin vars true (cell t r 2) (cell t r 3) (tuple t r 4) && storesReply vars cs t r) ≡ true
+    asking-within r k next w h =
+        both (ltb (cell t r 2) 64) _ h (λ a h1. both (exchangeFits vars true t r 3 1) _ h1 (λ b c.
+        rw (exchange-within vars true r 3 1 (cell t r 2) (w .there) (omega arith) a b) c))
 
     list-within : (most x : ℕ) (s : Bool) → (from1 most x && s) ≡ true → from1 most x ≡ true
     list-within most x s h = both (from1 most x) s h (λ a b. a)
@@ -98,7 +110,7 @@ module _ (t : List ℕ) (words : Words t) where
     raise-within x s h =
         both (leb 16 x) _ h (λ a h1. both (leb x 255) _ h1 (λ b c. raise-allowed x (leb-true 16 x a) (omega (arith, leb-true x 255 b))))
 
-    parts-within : (r k next : ℕ) → There t r k next → k ≤ 14 → (handler && isScopeCode k) ≡ false → partsFit vars cs t r k ≡ true → Finds Kept (partsAt vars t r k next)
+    parts-within : (r k next : ℕ) → There t r k next → isCode k ≡ true → (handler && isScopeCode k) ≡ false → partsFit vars cs t r k ≡ true → Finds Kept (partsAt vars t r k next)
     unfolding partsAt partsFit ownWithin raiseWithin numbersWithin
     parts-within r k next w l g h =
         finds-code k 0 (omega arith) (λ e. finds-found refl) (λ z.
@@ -118,7 +130,9 @@ module _ (t : List ℕ) (words : Words t) where
         finds-code k 11 (omega arith) (λ e. finds-found (rw (sym (and-true handler) ∙ rw e at g))) (λ z.
         finds-code k 12 (omega arith) (λ e. finds-found (rw (sym (and-true handler) ∙ rw e at g))) (λ z.
         finds-code k 13 (omega arith) (λ e. finds-found (raise-within (cell t r 2) _ (rw e at h))) (λ z.
-        let e : k ≡ 14 = omega arith in finds-found (rw (sym (and-true handler) ∙ rw e at g))))))))))))))))
+        finds-code k 14 (omega arith) (λ e. finds-found (rw (sym (and-true handler) ∙ rw e at g))) (λ z.
+        finds-cond (eqb k 17) (λ f. let e = eqb-true k 17 f in finds-found (held-within r k next w (rw e at h))) (λ f.
+        let e = last-code k l z f in finds-found (asking-within r k next w (rw e at h))))))))))))))))))
 
     head-within : (depth n r : ℕ) → Finds (λ h q. Kept h q × (n < 256)) (headAt vars cs t handler depth n r)
     unfolding headAt
@@ -132,7 +146,7 @@ module _ (t : List ℕ) (words : Words t) where
         finds-then (row-finds t r) (λ p next w.
         finds-cond (ltb p 64) (λ e.
         finds-cond (leb 256 n) (λ f. finds-refused) (λ f.
-        finds-cond (exchangeFits vars true t r 2) (λ g. finds-found ((refl, refl), (exchange-within vars true r 2 p (w .there) (omega arith) e g, leb-false _ _ f))) (λ g. finds-refused)))
+        finds-cond (exchangeFits vars true t r 2 0) (λ g. finds-found ((refl, refl), (exchange-within vars true r 2 0 p (w .there) (omega arith) e g, leb-false _ _ f))) (λ g. finds-refused)))
         (λ e. finds-refused))
 
   module _ (vars : ℕ) (cs : List ℕ) where

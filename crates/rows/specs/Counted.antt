@@ -18,7 +18,9 @@ pub data Part : Type 0 where
 -- how many numbers an activity has: of a send and a receive, `count` is the count of their variables
 unfoldable pub activityAsks : (code count : ℕ) → ℕ
 activityAsks code n =
-    cond (eqb code 1 || eqb code 2) (4 + n) (cond (eqb code 3 || (eqb code 8 || (eqb code 9 || (eqb code 10 || eqb code 13)))) 2 1)
+    cond (eqb code 1 || eqb code 2) (4 + n)
+    (cond (eqb code 17 || eqb code 18) (5 + n)
+    (cond (eqb code 3 || (eqb code 8 || (eqb code 9 || (eqb code 10 || eqb code 13)))) 2 1))
 
 -- how many numbers row r asks for, by its code and its counts
 unfoldable pub asks : Part → List ℕ → (r : ℕ) → ℕ

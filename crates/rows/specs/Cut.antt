@@ -59,8 +59,8 @@ unfoldable pub betweenIn : (left : ℕ) → List ℕ → (k : ℕ) → ℕ
 betweenIn zero t k = 0
 betweenIn (suc left) t k = cond (eqb (kindIn t k) 14) (countIn t k + 1) 0 + betweenIn left t (k + 1)
 
--- how many numbers the row of an activity or arm has: a send or a receive four before its variables, an arm, which has no code, three; a set, a
--- sequence, a flow, a pick and a raise with a number two; all others their code alone
+-- how many numbers the row of an activity or arm has: a send or a receive four before its variables, and one behind them where it has a reply address, an
+-- arm, which has no code, three; a set, a sequence, a flow, a pick and a raise with a number two; all others their code alone
 unfoldable pub widthOf : (kind count : ℕ) → ℕ
 widthOf kind count =
     cond (eqb kind 1) (used (4 + count))
@@ -70,8 +70,10 @@ widthOf kind count =
     (cond (eqb kind 9) 2
     (cond (eqb kind 10) 2
     (cond (eqb kind 13) 2
+    (cond (eqb kind 17) (used (5 + count))
+    (cond (eqb kind 18) (used (5 + count))
     (cond (eqb kind 255) (used (3 + count))
-    1)))))))
+    1)))))))))
 
 -- how many expressions follow the row of an activity: one after a set, a choose and a repeat
 unfoldable pub opens : (kind : ℕ) → ℕ

@@ -157,6 +157,8 @@ fn width_of(kind: usize, count: usize) -> usize
         code::FLOW => 2,
         code::PICK => 2,
         code::NUMBERED_RAISE => 2,
+        code::HELD_SEND => at_most_19(5 + count),
+        code::ASKING_RECEIVE => at_most_19(5 + count),
         code::ARM => at_most_19(3 + count),
         _ => 1,
     }

@@ -16,13 +16,14 @@ fn put_own(out: &mut [u8; 4096], used: usize, fault: u8) -> usize {
         2 => put(out, used, b"sum too large"),
         3 => put(out, used, b"difference below zero"),
         4 => put(out, used, b"conflicting receive"),
+        5 => put(out, used, b"no such partner"),
         _ => put(out, used, b"a fault"),
     }
 }
 
 // What the fault with this number is called; a raise with a number by the name that it may have.
 pub fn put_fault(out: &mut [u8; 4096], used: usize, names: &[u8; 16896], fault: u8) -> usize {
-    if fault < 5 {
+    if fault < 6 {
         return put_own(out, used, fault);
     }
     put_fault_name(out, used, names, b"fault ", fault as u32)
@@ -111,6 +112,7 @@ pub fn put_faults(out: &mut [u8; 4096], used: usize) -> usize {
     at = put_row(out, at, 2);
     at = put_row(out, at, 3);
     at = put_row(out, at, 4);
+    at = put_row(out, at, 5);
     put(
         out,
         at,

@@ -9,7 +9,7 @@ fn put_first(out: &mut [u8; 4096], used: usize, k: usize) -> usize {
         0 => put(
             out,
             used,
-            b"post PARTNER OPERATION VALUE..  a message comes in",
+            b"post PARTNER OPERATION VALUE..  a message comes in; behind its values, \"reply PARTNER\" says whom to reply to",
         ),
         1 => put(
             out,
@@ -154,7 +154,7 @@ fn put_more_first(out: &mut [u8; 4096], used: usize, k: usize) -> usize {
         0 => put(
             out,
             used,
-            b"  Partner and operation by name or number, then 1 to 4 values: post maker supported 7 1\n  It waits until an order takes it; \"waiting\" shows it, \"why\" says who could.",
+            b"  Partners and operation by name or number, 1 to 4 values: post maker supported 7 1, or post shop ask 7 40 reply to_shop\n  It waits until an order takes it; \"waiting\" shows it, \"why\" says who could.",
         ),
         1 => put(
             out,
@@ -174,7 +174,7 @@ fn put_more_first(out: &mut [u8; 4096], used: usize, k: usize) -> usize {
         4 => put(
             out,
             used,
-            b"  What is sent to a partner that the plan never receives on leaves by collect.",
+            b"  What is sent to a partner that the plan never receives on leaves by collect.\n  The answer is \"collect 0 PARTNER OPERATION COUNT VALUE.. REPLY\": REPLY is the partner to reply to, 0 where none is named.",
         ),
         5 => put(
             out,
@@ -209,7 +209,7 @@ fn put_more_first(out: &mut [u8; 4096], used: usize, k: usize) -> usize {
         11 => put(
             out,
             used,
-            b"  A line for each, with its place, oldest first.",
+            b"  A line for each, with its place, oldest first: PARTNER OPERATION COUNT VALUE.. REPLY, and words.",
         ),
         12 => put(out, used, b"  STARTED WELL HANDLED FAILED LEFT."),
         _ => used,

@@ -48,7 +48,7 @@ fn put_of_state(out: &mut [u8; 4096], used: usize, refusal: u32) -> usize {
         13 => put(
             out,
             used,
-            b"partners and operations are 0 to 63, and a message has 1 to 4 values",
+            b"partners, also the one to reply to, and operations are 0 to 63, and a message has 1 to 4 values",
         ),
         14 => put(out, used, b"64 messages wait"),
         15 => put(

@@ -12,7 +12,7 @@ use lib.Dec.{eqb, ltb}
 use borrow.Author.Tests.{eqb-true, eqb-false, eq-eqb, ne-eqb, lt-ltb, le-ltb, ltb-true, ltb-false}
 use Rattle.plan.specs.Spells.{Spells, variablesOf}
 use Rattle.plan.specs.Table.{rowOf}
-use Rattle.plan.specs.Tree.{Own, empty, send, receive, set as setting, raise, leave, choose, repeat, sequence, flow, pick, scope, arm, kind, Act, act, Acts, none, more, Plan}
+use Rattle.plan.specs.Tree.{toPartner, toHeld, From, fromPartner, fromAsking, partnerFrom, Own, empty, send, receive, set as setting, raise, leave, choose, repeat, sequence, flow, pick, scope, arm, kind, Act, act, Acts, none, more, Plan}
 use Rattle.order.specs.declared.Order.{Order}
 use Rattle.plan.proofs.TableSpells.{row-variables}
 use Rattle.order.specs.Answering.{scopeKind, Spelled}
@@ -138,25 +138,25 @@ module _ {t rows : List ℕ} {n k i : ℕ} (c : Unseen t rows n k i) where
   unfolding some isThing
   unseen-done h = record { is = λ l o a b vs x f. go o (omega arith) a b vs x f }
     where
-      go : {m : ℕ} {l : List Ready} → Opened t rows m l → m ≤ i → (a b : ℕ) (vs : List ℕ) → Exchange a b vs k t → length vs ≤ 4 → false ≡ some (λ y. isThing a b vs (y .step)) l
+      go : {m : ℕ} {l : List Ready} → Opened t rows m l → m ≤ i → (a : From) (b : ℕ) (vs : List ℕ) → Exchange (partnerFrom a) b vs k t → length vs ≤ 4 → false ≡ some (λ y. isThing a b vs (y .step)) l
       go opened-none g a b vs x f = refl
       go (opened-other q o) g a b vs x f = rw (q a b vs) (go o g a b vs x f)
       go (opened-more {n = m} {r = r} {l = l} a′ b′ ws y v e o) g a b vs x f =
-          let z : isThing a b vs (r .step) ≡ false = ap (isThing a b vs) e ∙ sym (c .none m (omega arith) .is a b a′ b′ vs ws x f y v) in
+          let z : isThing a b vs (r .step) ≡ false = ap (isThing a b vs) e ∙ sym (c .none m (omega arith) .is (partnerFrom a) b (partnerFrom a′) b′ vs ws x f y v) in
           rw z (go o (omega arith) a b vs x f)
 
   pub unseen-found : i < n → {j : ℕ} → j ≡ getD rows i 0 → {b : Bool} → SameThing t j k b → b ≡ true → SeenRow t rows n k true
-  unfolding some
+  unfolding some isThing
   unseen-found h e s q = record { is = λ l o a b vs x f. go o h a b vs x f }
     where
-      go : {m : ℕ} {l : List Ready} → Opened t rows m l → i < m → (a b : ℕ) (vs : List ℕ) → Exchange a b vs k t → length vs ≤ 4 → true ≡ some (λ y. isThing a b vs (y .step)) l
+      go : {m : ℕ} {l : List Ready} → Opened t rows m l → i < m → (a : From) (b : ℕ) (vs : List ℕ) → Exchange (partnerFrom a) b vs k t → length vs ≤ 4 → true ≡ some (λ y. isThing a b vs (y .step)) l
       go opened-none g a b vs x f = absurd (omega arith)
       go (opened-other {r = r} {l = l} u o) g a b vs x f = sym (ap (λ (z : Bool). isThing a b vs (r .step) || z) (sym (go o g a b vs x f)) ∙ or-true (isThing a b vs (r .step)))
       go (opened-more {n = m} {r = r} {l = l} a′ b′ ws y v d o) g a b vs x f =
           elim (ℕ-discrete m i) [
             | yes z ↦
                 let w : SameThing t (getD rows m 0) k true = rw z (rw (e, q) at s) in
-                let u : isThing a b vs (r .step) ≡ true = ap (isThing a b vs) d ∙ sym (w .is a b a′ b′ vs ws x f y v) in
+                let u : isThing a b vs (r .step) ≡ true = ap (isThing a b vs) d ∙ sym (w .is (partnerFrom a) b (partnerFrom a′) b′ vs ws x f y v) in
                 rw u
             | no z ↦ sym (ap (λ (q : Bool). isThing a b vs (r .step) || q) (sym (go o (omega (arith, z)) a b vs x f)) ∙ or-true (isThing a b vs (r .step)))
           ]
@@ -185,6 +185,10 @@ module _ (t ms : List ℕ) (reach k : ℕ) where
   unfolding awaits scopeKind
   open-receive z = record { is = λ x y w. rw (arm-kind (x .own), ← scope-kind (x .own), sym (stands-kind y) ∙ z, y .activity) (and-true (eqb (getD ms k 0) 1)) }
 
+  pub open-asking : getD t (k * 13) 0 ≡ 18 → OpenRow t ms reach k (eqb (getD ms k 0) 1)
+  unfolding awaits scopeKind
+  open-asking z = record { is = λ x y w. rw (arm-kind (x .own), ← scope-kind (x .own), sym (stands-kind y) ∙ z, y .activity) (and-true (eqb (getD ms k 0) 1)) }
+
   pub open-arm : {b : Bool} → getD t (k * 13) 0 ≡ 255 → ArmAt t ms k b → OpenRow t ms reach k b
   unfolding awaits scopeKind
   open-arm {b} z q = record { is = λ x y w. rw (arm-kind (x .own), ← scope-kind (x .own), sym (stands-kind y) ∙ z) (q .is (y .inside) ∙ (sym (y .arms) ∙ and-true (x .arms))) }
@@ -202,12 +206,13 @@ module _ (t ms : List ℕ) (reach k : ℕ) where
   unfolding awaits scopeKind
   open-beyond z h = record { is = λ x y w. rw (arm-kind (x .own), ← scope-kind (x .own), sym (stands-kind y) ∙ z) (sym (beyond-closed w h k (omega arith)) ∙ (sym (y .arms) ∙ and-true (x .arms))) }
 
-  pub open-other : (getD t (k * 13) 0 ≡ 2 → ⊥) → (getD t (k * 13) 0 ≡ 255 → ⊥) → OpenRow t ms reach k false
-  open-other z v = record {
+  pub open-other : (getD t (k * 13) 0 ≡ 2 → ⊥) → (getD t (k * 13) 0 ≡ 18 → ⊥) → (getD t (k * 13) 0 ≡ 255 → ⊥) → OpenRow t ms reach k false
+  open-other z u v = record {
     is = λ x y w.
         let a : eqb (kind (x .own)) 2 ≡ false = ne-eqb _ _ (λ e. z (stands-kind y ∙ e)) in
-        let b : eqb (kind (x .own)) 255 ≡ false = ne-eqb _ _ (λ e. v (stands-kind y ∙ e)) in
-        rw (a, b) (and-no (isReady ms x));
+        let b : eqb (kind (x .own)) 18 ≡ false = ne-eqb _ _ (λ e. u (stands-kind y ∙ e)) in
+        let c : eqb (kind (x .own)) 255 ≡ false = ne-eqb _ _ (λ e. v (stands-kind y ∙ e)) in
+        rw (a, b, c) (and-no (isReady ms x));
   }
     where
       and-no : (b : Bool) → false ≡ (b && false)
@@ -216,24 +221,34 @@ module _ (t ms : List ℕ) (reach k : ℕ) where
 
 -- `first_conflict`: a line that takes a message, and one that takes none
 record TakenAt (t : List ℕ) (own : Own) (l : Acts) (k : ℕ) : Type 0 where
-  partner : ℕ
+  from : From
   operation : ℕ
   variables : List ℕ
-  is : doingOf own l k ≡ takes partner operation variables
-  row : Exchange partner operation variables k t
+  is : doingOf own l k ≡ takes from operation variables
+  row : Exchange (partnerFrom from) operation variables k t
   few : length variables ≤ 4
 
 taken-at : (t : List ℕ) (own : Own) (l : Acts) (k at q : ℕ) → k < 256 → Spells (act own l) at k q t → length (variablesOf own) ≤ 4 → receives own ≡ true → TakenAt t own l k
 unfolding Spells doingOf variablesOf rowOf kind
 taken-at t empty l k at q h s f e = absurd (false≢true e)
-taken-at t (send a b vs) l k at q h s f e = absurd (false≢true e)
-taken-at t (receive a b vs) l k at q h s f e =
+taken-at t (send (toPartner a) b vs) l k at q h s f e = absurd (false≢true e)
+taken-at t (send (toHeld v a) b vs) l k at q h s f e = absurd (false≢true e)
+taken-at t (receive (fromPartner a) b vs) l k at q h s f e =
     record {
-      partner = a;
+      from = fromPartner a;
       operation = b;
       variables = vs;
       is = refl;
-      row = record { inside = h; partner = s .row .partner; operation = s .row .operation; count = s .row .count; variables = λ i g. s .row .variables i g ∙ row-variables (receive a b vs) q at i refl g };
+      row = record { inside = h; partner = s .row .partner; operation = s .row .operation; count = s .row .count; variables = λ i g. s .row .variables i g ∙ row-variables (receive (fromPartner a) b vs) q at i refl g };
+      few = f;
+    }
+taken-at t (receive (fromAsking a v) b vs) l k at q h s f e =
+    record {
+      from = fromAsking a v;
+      operation = b;
+      variables = vs;
+      is = refl;
+      row = record { inside = h; partner = s .row .partner; operation = s .row .operation; count = s .row .count; variables = λ i g. s .row .variables i g ∙ row-variables (receive (fromAsking a v) b vs) q at i refl g };
       few = f;
     }
 taken-at t (setting v x) l k at q h s f e = absurd (false≢true e)
@@ -250,7 +265,7 @@ taken-at t (scope [] false) l k at q h s f e = absurd (false≢true e)
 taken-at t (scope (n ∷ ns) v) l k at q h s f e = absurd (false≢true e)
 taken-at t (arm a b vs) l k at q h s f e =
     record {
-      partner = a;
+      from = fromPartner a;
       operation = b;
       variables = vs;
       is = refl;
@@ -258,11 +273,12 @@ taken-at t (arm a b vs) l k at q h s f e =
       few = f;
     }
 
-no-thing : (own : Own) (l : Acts) (k : ℕ) → receives own ≡ false → (a b : ℕ) (vs : List ℕ) → isThing a b vs (doingOf own l k) ≡ false
+no-thing : (own : Own) (l : Acts) (k : ℕ) → receives own ≡ false → (a : From) (b : ℕ) (vs : List ℕ) → isThing a b vs (doingOf own l k) ≡ false
 unfolding isThing doingOf kind
 no-thing empty l k e a b vs = refl
 no-thing (send x y ws) l k e a b vs = refl
-no-thing (receive x y ws) l k e a b vs = absurd (false≢true (sym e))
+no-thing (receive (fromPartner x) y ws) l k e a b vs = absurd (false≢true (sym e))
+no-thing (receive (fromAsking x v) y ws) l k e a b vs = absurd (false≢true (sym e))
 no-thing (setting v x) l k e a b vs = refl
 no-thing (raise zero) l k e a b vs = refl
 no-thing (raise (suc number)) l k e a b vs = refl
@@ -279,7 +295,8 @@ no-second : (own : Own) (l : Acts) (k : ℕ) → receives own ≡ false → (bef
 unfolding isSecond doingOf kind
 no-second empty l k e before = refl
 no-second (send x y ws) l k e before = refl
-no-second (receive x y ws) l k e before = absurd (false≢true (sym e))
+no-second (receive (fromPartner x) y ws) l k e before = absurd (false≢true (sym e))
+no-second (receive (fromAsking x v) y ws) l k e before = absurd (false≢true (sym e))
 no-second (setting v x) l k e before = refl
 no-second (raise zero) l k e before = refl
 no-second (raise (suc number)) l k e before = refl
@@ -297,7 +314,7 @@ opened-set : {t rows : List ℕ} {n : ℕ} {l : List Ready} (m v : ℕ) → n �
 opened-set m v h opened-none = opened-none
 opened-set m v h (opened-other q o) = opened-other q (opened-set m v h o)
 opened-set {t} {rows} m v h (opened-more {n = n} a b vs x f e o) =
-    opened-more a b vs (subst (λ (k : ℕ). Exchange a b vs k t) (sym (getD-set-other rows m n v 0 (omega arith))) x) f e (opened-set m v (omega arith) o)
+    opened-more a b vs (subst (λ (k : ℕ). Exchange (partnerFrom a) b vs k t) (sym (getD-set-other rows m n v 0 (omega arith))) x) f e (opened-set m v (omega arith) o)
 
 -- where the loop stands: of what is awaited, that of the rows before k was looked at
 pub record Looked (t rows : List ℕ) (m k : ℕ) (p : Plan) (o : Order) : Type 0 where
@@ -425,8 +442,8 @@ module _ {t : List ℕ} {n : ℕ} {ms rows : List ℕ} {m reach k : ℕ} (c : Lo
       both (isReady (o .marks) x) (receives (x .own)) z (λ u v.
       let ta = taken-at t (x .own) (x .within) k (st .place) (st .node) (st .inside) (st .spelled) (st .few) v in
       let w = c .is p s o e in
-      let d : doingOf (x .own) (x .within) (x .activity) ≡ takes (ta .partner) (ta .operation) (ta .variables) = ap (doingOf (x .own) (x .within)) (st .activity) ∙ ta .is in
-      let i : isSecond (w .before) (doingOf (x .own) (x .within) (x .activity)) ≡ b = ap (isSecond (w .before)) d ∙ sym (q .is (w .before) (w .opened) (ta .partner) (ta .operation) (ta .variables) (ta .row) (ta .few)) in
+      let d : doingOf (x .own) (x .within) (x .activity) ≡ takes (ta .from) (ta .operation) (ta .variables) = ap (doingOf (x .own) (x .within)) (st .activity) ∙ ta .is in
+      let i : isSecond (w .before) (doingOf (x .own) (x .within) (x .activity)) ≡ b = ap (isSecond (w .before)) d ∙ sym (q .is (w .before) (w .opened) (ta .from) (ta .operation) (ta .variables) (ta .row) (ta .few)) in
       record {
         line = x;
         number = st .activity;
@@ -450,7 +467,7 @@ module _ {t : List ℕ} {n : ℕ} {ms rows : List ℕ} {m reach k : ℕ} (c : Lo
             let x : getD (set rows m v) m 0 ≡ k = getD-set-same rows m v 0 (omega (arith, c .few, c .long, u .few)) ∙ j in
             record {
               before = readyAt (z .line) ∷ z .looked .before;
-              opened = opened-more (ta .partner) (ta .operation) (ta .variables) (subst (λ (i : ℕ). Exchange (ta .partner) (ta .operation) (ta .variables) i t) (sym x) (ta .row)) (ta .few)
+              opened = opened-more (ta .from) (ta .operation) (ta .variables) (subst (λ (i : ℕ). Exchange (partnerFrom (ta .from)) (ta .operation) (ta .variables) i t) (sym x) (ta .row)) (ta .few)
                   (ap (doingOf (z .line .own) (z .line .within)) (z .number) ∙ ta .is) (opened-set m v (omega arith) (z .looked .opened));
               same = z .same;
             };

@@ -8,7 +8,7 @@ use lib.ListN.{getD, set}
 use lib.Seq.{getD-set-other}
 use lib.Dec.{eqb, ltb}
 use borrow.Author.Tests.{eqb-true, eqb-false, eq-eqb, ne-eqb, lt-ltb, le-ltb, ltb-true, ltb-false}
-use Rattle.plan.specs.Tree.{Exp, Own, empty, send, receive, set as setting, raise, leave, choose, repeat, sequence, flow, pick, scope, arm, kind, undoPart, isScope, isPick, isArm, Act, act, Acts, none, more, Plan, size, sizes}
+use Rattle.plan.specs.Tree.{Exp, fromPartner, fromAsking, Own, empty, send, receive, set as setting, raise, leave, choose, repeat, sequence, flow, pick, scope, arm, kind, undoPart, isScope, isPick, isArm, Act, act, Acts, none, more, Plan, size, sizes}
 use Rattle.order.specs.declared.Order.{Order}
 use Rattle.order.specs.declared.Way.{Way as Result}
 use Rattle.order.specs.declared.Way.the-variants.{Running as running, Over as over, Raising as raising, Leaving as leaving, Undone as undone, UndoRaising as undoRaising}
@@ -315,7 +315,8 @@ raised-receive : (own : Own) (within : Acts) (q k : ℕ) (o : Order) → isTake 
 unfolding isTake doingOf performs replaces kind
 raised-receive empty within q k o h = absurd (false≢true h)
 raised-receive (send x y vs) within q k o h = absurd (false≢true h)
-raised-receive (receive x y vs) within q k o h = refl
+raised-receive (receive (fromPartner x) y vs) within q k o h = refl
+raised-receive (receive (fromAsking x v) y vs) within q k o h = refl
 raised-receive (setting v x) within q k o h = absurd (false≢true h)
 raised-receive (raise zero) within q k o h = absurd (false≢true h)
 raised-receive (raise (suc number)) within q k o h = absurd (false≢true h)

@@ -9,7 +9,7 @@ use lib.Dec.{eqb, ltb, leb}
 use borrow.Author.Tests.{eqb-true, not-true, leb-true}
 use Rattle.plan.specs.Read.{laterOf}
 use Rattle.plan.specs.Spell.{spelling}
-use Rattle.plan.specs.Tree.{Own, empty, send, receive, set as setting, raise, leave, choose, repeat, sequence, flow, pick, scope, arm, isScope, isPick, isArm, Act, act, Acts, none, more, Plan, size, count}
+use Rattle.plan.specs.Tree.{toPartner, toHeld, fromPartner, fromAsking, Own, empty, send, receive, set as setting, raise, leave, choose, repeat, sequence, flow, pick, scope, arm, isScope, isPick, isArm, Act, act, Acts, none, more, Plan, size, count}
 use Rattle.plan.specs.Within.{from1, scopeParts, ownWithin, actWithin, actsWithin, levelsBelow, ascending, planWithin}
 use Rattle.order.proofs.Standing.{own-scope}
 use Rattle.settling.proofs.Parts.{both, decide}
@@ -28,8 +28,10 @@ mutual
 own-formed : (vars : ℕ) (cs : List ℕ) (h r : Bool) (own : Own) (n : ℕ) → ownWithin vars cs h r own n ≡ true → isScope own ≡ false → isArm own ≡ r
 unfolding ownWithin
 own-formed vars cs h r empty n e s = sym (not-true r (both (not r) _ e (λ x y. x)))
-own-formed vars cs h r (send x y vs) n e s = sym (not-true r (both (not r) _ e (λ x y. x)))
-own-formed vars cs h r (receive x y vs) n e s = sym (not-true r (both (not r) _ e (λ x y. x)))
+own-formed vars cs h r (send (toPartner x) y vs) n e s = sym (not-true r (both (not r) _ e (λ x y. x)))
+own-formed vars cs h r (send (toHeld v x) y vs) n e s = sym (not-true r (both (not r) _ e (λ x y. x)))
+own-formed vars cs h r (receive (fromPartner x) y vs) n e s = sym (not-true r (both (not r) _ e (λ x y. x)))
+own-formed vars cs h r (receive (fromAsking x v) y vs) n e s = sym (not-true r (both (not r) _ e (λ x y. x)))
 own-formed vars cs h r (setting v x) n e s = sym (not-true r (both (not r) _ e (λ x y. x)))
 own-formed vars cs h r (raise zero) n e s = sym (not-true r (both (not r) _ e (λ x y. x)))
 own-formed vars cs h r (raise (suc number)) n e s = sym (not-true r (both (not r) _ e (λ x y. x)))

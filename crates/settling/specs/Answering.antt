@@ -5,7 +5,7 @@ use mathlib.Core.List.{List, [], _∷_}
 use mathlib.Core.Path.{_≡_}
 use lib.Dec.{ltb, leb}
 use lib.ListN.{length, getD}
-use Rattle.plan.specs.Tree.{Plan}
+use Rattle.plan.specs.Tree.{From, fromPartner, partnerFrom, Plan}
 use Rattle.order.specs.declared.Order.{Order}
 use Rattle.order.specs.Answering.{Spelled}
 use Rattle.order.specs.Awaited.{Doing, takes, Ready}
@@ -17,18 +17,18 @@ use Rattle.fit.specs.Receiving.{receives}
 
 -- r says whether the receives or arms in rows j and k are for one thing
 pub record SameThing (t : List ℕ) (j k : ℕ) (r : Bool) : Type 0 where
-  pub is : (a b c d : ℕ) (vs ws : List ℕ) → Exchange a b vs k t → length vs ≤ 4 → Exchange c d ws j t → length ws ≤ 4 → r ≡ isThing a b vs (takes c d ws)
+  pub is : (a b c d : ℕ) (vs ws : List ℕ) → Exchange a b vs k t → length vs ≤ 4 → Exchange c d ws j t → length ws ≤ 4 → r ≡ isThing (fromPartner a) b vs (takes (fromPartner c) d ws)
 
 -- what was awaited before, the last first: the receives and arms among it stand in the first n of these rows
 pub data Opened (t rows : List ℕ) : ℕ → List Ready → Type 0 where
   opened-none : Opened t rows 0 []
-  opened-other : {n : ℕ} {r : Ready} {l : List Ready} → ((a b : ℕ) (vs : List ℕ) → isThing a b vs (r .step) ≡ false) → Opened t rows n l → Opened t rows n (r ∷ l)
-  opened-more : {n : ℕ} {r : Ready} {l : List Ready} (a b : ℕ) (vs : List ℕ) → Exchange a b vs (getD rows n 0) t → length vs ≤ 4 → r .step ≡ takes a b vs
+  opened-other : {n : ℕ} {r : Ready} {l : List Ready} → ((a : From) (b : ℕ) (vs : List ℕ) → isThing a b vs (r .step) ≡ false) → Opened t rows n l → Opened t rows n (r ∷ l)
+  opened-more : {n : ℕ} {r : Ready} {l : List Ready} (a : From) (b : ℕ) (vs : List ℕ) → Exchange (partnerFrom a) b vs (getD rows n 0) t → length vs ≤ 4 → r .step ≡ takes a b vs
       → Opened t rows n l → Opened t rows (n + 1) (r ∷ l)
 
 -- r says whether the receive or arm in row k is for the same thing as one in the first n of these rows
 pub record SeenRow (t rows : List ℕ) (n k : ℕ) (r : Bool) : Type 0 where
-  pub is : (l : List Ready) → Opened t rows n l → (a b : ℕ) (vs : List ℕ) → Exchange a b vs k t → length vs ≤ 4 → r ≡ some (λ x. isThing a b vs (x .step)) l
+  pub is : (l : List Ready) → Opened t rows n l → (a : From) (b : ℕ) (vs : List ℕ) → Exchange (partnerFrom a) b vs k t → length vs ≤ 4 → r ≡ some (λ x. isThing a b vs (x .step)) l
 
 -- no active pick before row k ends beyond `reach`
 pub record Beyond (t ms : List ℕ) (reach k : ℕ) : Type 0 where

@@ -11,7 +11,7 @@ ghost use Prim.Native.Nat.{_≤_, _<_};
 ghost use mathlib.Core.Path.{_≡_};
 ghost use Rattle.settling.specs.Answering.{SameThing, SeenRow, Reaches, OpenRow, Capped, Clashes};
 
-// Whether rows j and k name the same partner, operation and variables, the variables in the same order.
+// Whether rows j and k name the same partner, operation and variables, the variables in the same order; the variable for whom to reply to is ignored.
 fn same_thing(table: &Table, j: usize, k: usize) -> bool
     requires { ⌜ (j < 256) × (k < 256) ⌝ }
     ensures { λ r. ⌜ SameThing (now (table .entry)) j k r ⌝ }
@@ -77,6 +77,9 @@ fn open_at(table: &Table, marks: &[u8; 256], reach: u32, k: usize) -> bool
 {
     let kind = table[k * WIDTH];
     if kind == kind::RECEIVE {
+        return marks[k] == mark::ACTIVE;
+    }
+    if kind == kind::ASKING_RECEIVE {
         return marks[k] == mark::ACTIVE;
     }
     if kind == kind::ARM {

@@ -20,6 +20,7 @@ use spelling::more;
 use spelling::narrow;
 use spelling::no_fault;
 use spelling::past_blanks;
+use spelling::put;
 use spelling::variable;
 use spelling::word_end;
 
@@ -132,7 +133,7 @@ pub(crate) fn plus(n: u32, wanted: bool) -> u32 {
     n
 }
 
-// The variables of a tuple, to the end of the line.
+// The variables of a tuple, as far as commas lead.
 fn tuple(s: &[u8], stop: usize, at: usize, rows: &mut [u32; 87100], r: usize) -> Read {
     add(rows, r, members(s, at));
     let mut p = at;
@@ -141,31 +142,20 @@ fn tuple(s: &[u8], stop: usize, at: usize, rows: &mut [u32; 87100], r: usize) ->
         if 0 < m.wrong {
             return m;
         }
-        if is_over(s, m.at) {
-            return read_to(m.at);
-        }
         let q = after_mark(s, m.at, 44);
         if q <= p {
-            return unread(7, m.at);
+            return m;
         }
         p = q;
     }
     unread(7, p)
 }
 
-// `partner P, operation O: V, V` into row r.
-fn exchange(s: &[u8], stop: usize, at: usize, rows: &mut [u32; 87100], r: usize) -> Read {
-    let a = after_word(s, at, b"partner");
-    if a == 0 {
-        return unread(7, at);
-    }
-    let p = numbered(s, stop, a, 1, rows, r);
-    if 0 < p.wrong {
-        return p;
-    }
-    let b = after_mark(s, p.at, 44);
+// `, operation O: V, V` into row r, after whom the message is for or from.
+fn about(s: &[u8], stop: usize, at: usize, rows: &mut [u32; 87100], r: usize) -> Read {
+    let b = after_mark(s, at, 44);
     if b == 0 {
-        return unread(7, p.at);
+        return unread(7, at);
     }
     let c = after_word(s, b, b"operation");
     if c == 0 {
@@ -182,6 +172,53 @@ fn exchange(s: &[u8], stop: usize, at: usize, rows: &mut [u32; 87100], r: usize)
     tuple(s, stop, d, rows, r)
 }
 
+// `partner P, operation O: V, V` into row r.
+fn exchange(s: &[u8], stop: usize, at: usize, rows: &mut [u32; 87100], r: usize) -> Read {
+    let a = after_word(s, at, b"partner");
+    if a == 0 {
+        return unread(7, at);
+    }
+    let p = numbered(s, stop, a, 1, rows, r);
+    if 0 < p.wrong {
+        return p;
+    }
+    about(s, stop, p.at, rows, r)
+}
+
+// `partner in V, operation O: V, V` into row r, of a send to the partner that V holds.
+fn held_exchange(s: &[u8], stop: usize, at: usize, rows: &mut [u32; 87100], r: usize) -> Read {
+    let a = after_word(s, at, b"partner");
+    if a == 0 {
+        return unread(7, at);
+    }
+    let b = after_word(s, a, b"in");
+    if b == 0 {
+        return unread(7, a);
+    }
+    let v = member(s, stop, b, rows, r);
+    if 0 < v.wrong {
+        return v;
+    }
+    about(s, stop, v.at, rows, r)
+}
+
+// The place after `with reply to`; 0 where it is not there.
+fn after_reply(s: &[u8], at: usize) -> usize {
+    let with = after_word(s, at, b"with");
+    if with == 0 {
+        return 0;
+    }
+    after_both(s, with, b"reply", b"to")
+}
+
+// The line does not end after a tuple: a reply is said otherwise, or where none is, and so is anything else.
+fn unended(s: &[u8], at: usize) -> usize {
+    if 0 < after_word(s, at, b"with") {
+        return 29;
+    }
+    7
+}
+
 // A send, a receive or an arm, from its partner on.
 fn message(
     s: &[u8],
@@ -196,7 +233,85 @@ fn message(
     if 0 < e.wrong {
         return bad(e.wrong, e.at);
     }
-    own_of(kind, r)
+    if is_over(s, e.at) {
+        return own_of(kind, r);
+    }
+    if kind == code::RECEIVE {
+        return asking(s, stop, e.at, rows, r);
+    }
+    bad(unended(s, e.at), e.at)
+}
+
+// What a receive stores the reply partner in, where its line goes on: `with reply to into V`.
+fn asking(s: &[u8], stop: usize, at: usize, rows: &mut [u32; 87100], r: usize) -> Own {
+    let a = after_reply(s, at);
+    if a == 0 {
+        return bad(unended(s, at), at);
+    }
+    let b = after_word(s, a, b"into");
+    if b == 0 {
+        return bad(29, a);
+    }
+    let v = member(s, stop, b, rows, r);
+    if 0 < v.wrong {
+        return bad(of_reply(v.wrong), v.at);
+    }
+    put(rows, r, 1, kind::ASKING_RECEIVE);
+    ended(s, v.at, code::ASKING_RECEIVE, r)
+}
+
+// A send to the partner that a variable holds, from behind `the` on; where it says no partner to reply to, that is 0.
+fn held_send(s: &[u8], stop: usize, at: usize, rows: &mut [u32; 87100], r: usize) -> Own {
+    add(rows, r, kind::HELD_SEND);
+    let e = held_exchange(s, stop, at, rows, r);
+    if 0 < e.wrong {
+        return bad(of_held(e.wrong), e.at);
+    }
+    if is_over(s, e.at) {
+        add(rows, r, 0);
+        return own_of(code::HELD_SEND, r);
+    }
+    replying(s, stop, e.at, rows, r)
+}
+
+// Whom a send asks to reply to: `with reply to partner P`.
+fn replying(s: &[u8], stop: usize, at: usize, rows: &mut [u32; 87100], r: usize) -> Own {
+    let a = after_reply(s, at);
+    if a == 0 {
+        return bad(of_held(unended(s, at)), at);
+    }
+    let b = after_word(s, a, b"partner");
+    if b == 0 {
+        return bad(29, a);
+    }
+    let p = numbered(s, stop, b, 1, rows, r);
+    if 0 < p.wrong {
+        return bad(of_reply(p.wrong), p.at);
+    }
+    ended(s, p.at, code::HELD_SEND, r)
+}
+
+// An activity whose line has to end here, after a reply.
+fn ended(s: &[u8], at: usize, kind: usize, r: usize) -> Own {
+    if is_over(s, at) {
+        return own_of(kind, r);
+    }
+    bad(29, at)
+}
+
+// A reason, where it is that the words of a message are others, as that of a send to the partner that a variable holds, or of a reply.
+fn of_held(reason: usize) -> usize {
+    if reason == 7 {
+        return 30;
+    }
+    reason
+}
+
+fn of_reply(reason: usize) -> usize {
+    if reason == 7 {
+        return 29;
+    }
+    reason
 }
 
 // An arm has no code.
@@ -311,13 +426,25 @@ fn after_both(s: &[u8], at: usize, word: &[u8], other: &[u8]) -> usize {
     after_word(s, p, other)
 }
 
+// A send, from behind its words on: to a partner, or to `the partner in V`.
+fn sending(s: &[u8], at: usize) -> Begun {
+    let held = after_word(s, at, b"the");
+    if 0 < held {
+        return Begun {
+            kind: code::HELD_SEND,
+            at: held,
+        };
+    }
+    Begun {
+        kind: code::SEND,
+        at,
+    }
+}
+
 fn opening(s: &[u8], at: usize) -> Begun {
     let send = after_both(s, at, b"send", b"to");
     if 0 < send {
-        return Begun {
-            kind: code::SEND,
-            at: send,
-        };
+        return sending(s, send);
     }
     let receive = after_both(s, at, b"receive", b"from");
     if 0 < receive {
@@ -387,6 +514,7 @@ pub(crate) fn activity(
     let kind = o.kind;
     match kind {
         code::SEND => message(s, stop, o.at, code::SEND, rows, r),
+        code::HELD_SEND => held_send(s, stop, o.at, rows, r),
         code::RECEIVE => message(s, stop, o.at, code::RECEIVE, rows, r),
         code::SET => set(s, stop, o.at, rows, lines, r, line),
         code::CHOOSE => judged(s, stop, o.at, code::CHOOSE, rows, lines, r, line),

@@ -209,7 +209,13 @@ pub(crate) fn enter(
         if fits(kind, outer) {
             set_field(levels, level, 3, order + 1);
             set_field(levels, level, 4, column);
-            count(rows, outer, row_of(levels, level), order, field(levels, level, 5));
+            count(
+                rows,
+                outer,
+                row_of(levels, level),
+                order,
+                field(levels, level, 5),
+            );
             return 0;
         }
         return 16;

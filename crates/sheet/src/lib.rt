@@ -57,6 +57,8 @@ use spelling::wrong_place;
 //     26 an arm is said otherwise
 //     27 a word of expressions is no name
 //     28 a fault's number is not 16 to 255
+//     29 a reply is said otherwise, or in an arm or a send to a partner
+//     30 partner, operation and variables of a send to the partner that a variable holds are said otherwise
 // `place` is where in the text, the length of the text where it is no place in it.
 pub enum Sheet {
     Rows {

@@ -3,29 +3,27 @@ use mathlib.Core.Path.{_≡_, refl, sym, ap, _∙_}
 use mathlib.Core.Bool.{Bool, true, false, false≢true, cond, not, _&&_, _||_}
 use mathlib.Core.List.{List, [], _∷_, _++_, map}
 use Prim.Native.Nat.{ℕ, zero, suc, _+_, _*_, _-_, _<_, _≤_}
-use native.Mathlib.Decide.{decLt}
 use native.Mathlib.Nat.{add-zero}
 use native.Mathlib.Numerals.{add-one}
 use native.Mathlib.Omega.{arith}
-use borrow.Author.Tests.{eq-eqb, ne-eqb, lt-ltb, le-ltb, le-leb, lt-leb, not-true, not-false}
+use borrow.Author.Tests.{eq-eqb, ne-eqb, lt-ltb, le-ltb, le-leb, lt-leb}
 use lib.Dec.{eqb, ltb, leb}
-use lib.ListN.{length, getD, drop, take, drop-of-length-le, List·getD-eq-default}
+use lib.ListN.{length, getD, drop, take, drop-of-length-le}
 use lib.Seq.{drop-cons, getD-drop}
 use Rattle.plan.specs.Read.{isScopeCode}
 use Rattle.plan.specs.Spells.{Row, Spells, variablesOf}
 use Rattle.plan.specs.Table.{rowOf}
-use Rattle.plan.specs.Tree.{Own, empty, send, receive, set as setting, raise, leave, choose, repeat, sequence, flow, pick, scope, arm, kind, Act, act, Acts, none, more, Plan, size}
+use Rattle.plan.specs.Tree.{toPartner, toHeld, fromPartner, fromAsking, Own, empty, send, receive, set as setting, raise, leave, choose, repeat, sequence, flow, pick, scope, arm, kind, Act, act, Acts, none, more, Plan, size}
 use Rattle.order.specs.declared.Order.{Order}
-use Rattle.fit.specs.Answering.{Exchange, sixteenth, Asking, AsksRow, FitsRow, UncheckedRow, messageAt, ArmsRow}
+use Rattle.fit.specs.Answering.{Asking, AsksRow, FitsRow, UncheckedRow, messageAt, ArmsRow}
 use Rattle.machine.specs.Fit.{doingOf, awaits, isChecked, Ready, Letter, fits, unchecked, mayTake}
 use Rattle.order.specs.Lists.{every}
 use Rattle.machine.specs.Offer.{isCut}
-use Rattle.order.specs.State.{isBound}
 use Rattle.sight.specs.declared.Sight.{Sight}
 use Rattle.fit.specs.Folds.{folded}
 use Rattle.fit.specs.Lines.{Line, isReady, readyAt, Stands, Rows}
-use Rattle.sight.specs.Sights.{Marked, Exchanging, Heeding, Told, Tells, noLetter, AwaitsRow, CutRow, cutLine, BoundRow, showing, takeLetter, TakesLetter, takeLine}
-use Rattle.fit.proofs.FitReturns.{sixteenth-beyond, sixteenth-here, asks-asking}
+use Rattle.sight.specs.Sights.{Marked, Exchanging, Heeding, Told, Tells, noLetter, AwaitsRow, isSendCode, CutRow, cutLine, showing, takeLetter, TakesLetter, takeLine}
+use Rattle.fit.proofs.FitReturns.{asks-asking}
 use Rattle.fit.proofs.OwnKinds.{awaits-kind}
 use Rattle.fit.proofs.SearchReturns.{stands-kind, stands-exchange, and-false}
 
@@ -38,6 +36,15 @@ scope-open n e d = rw (ne-eqb _ _ e, eq-eqb _ _ d)
 
 pub scope-other : (n : ℕ) → (n ≡ 11 → ⊥) → (n ≡ 12 → ⊥) → eqb n 14 ≡ isScopeCode n
 scope-other n e d = rw (ne-eqb _ _ e, ne-eqb _ _ d)
+
+-- `is_send`
+pub send-here : (n : ℕ) → n ≡ 1 → true ≡ isSendCode n
+unfolding isSendCode
+send-here n e = rw (eq-eqb _ _ e)
+
+pub send-other : (n : ℕ) → (n ≡ 1 → ⊥) → eqb n 17 ≡ isSendCode n
+unfolding isSendCode
+send-other n e = rw (ne-eqb _ _ e)
 
 -- `awaits_at`
 module _ (t picks ms : List ℕ) (k : ℕ) where
@@ -63,8 +70,10 @@ module _ (t picks ms : List ℕ) (k : ℕ) where
 cut-own : (own : Own) (w : Acts) (k : ℕ) → isCut (record { activity = k; step = doingOf own w k }) ≡ (eqb (kind own) 4 || (eqb (kind own) 13 || eqb (kind own) 5))
 unfolding doingOf kind
 cut-own empty w k = refl
-cut-own (send a b vs) w k = refl
-cut-own (receive a b vs) w k = refl
+cut-own (send (toPartner a) b vs) w k = refl
+cut-own (send (toHeld v a) b vs) w k = refl
+cut-own (receive (fromPartner a) b vs) w k = refl
+cut-own (receive (fromAsking a v) b vs) w k = refl
 cut-own (setting v e) w k = refl
 cut-own (raise zero) w k = refl
 cut-own (raise (suc number)) w k = refl
@@ -137,57 +146,6 @@ module _ {t : List ℕ} (marks : List ℕ) {k : ℕ} (c : Bool) {d : Bool} (v : 
     cut-before e = record {
       is = λ o p l x g y. rw (cut-ready o x (g .same) y, ne-eqb _ _ e);
     }
-
--- `bound_at`
-pub bound-beyond : (l : List ℕ) (v : ℕ) → 16 ≤ v → false ≡ eqb (sixteenth l v) 1
-bound-beyond l v h = rw (← sixteenth-beyond l v h)
-
-pub bound-here : (l : List ℕ) (v : ℕ) → v < 16 → eqb (getD l v 0) 1 ≡ eqb (sixteenth l v) 1
-bound-here l v h = rw (← sixteenth-here l v h)
-
-sixteenth-all : (l : List ℕ) (v : ℕ) → length l ≡ 16 → sixteenth l v ≡ getD l v 0
-sixteenth-all l v e =
-    elim (decLt v 16) [
-      | yes h ↦ sym (sixteenth-here l v h)
-      | no h ↦
-          let z : length l ≤ v = omega (arith, h) in
-          sym (sixteenth-beyond l v (omega (arith, h))) ∙ sym (List·getD-eq-default l 0 z)
-    ]
-
--- `bound_row`
-pub record Binding (t bound : List ℕ) (k i : ℕ) : Type 0 where
-  pub within : i ≤ getD t (k * 13 + 3) 0
-  pub same : (o : Order) (a b : ℕ) (vs : List ℕ) → o .bound ≡ bound → length bound ≡ 16 → Exchange a b vs k t → every (isBound o) vs ≡ every (isBound o) (drop i vs)
-
-pub bound-many : (t bound : List ℕ) (k : ℕ) → 4 < getD t (k * 13 + 3) 0 → BoundRow t bound k false
-bound-many t bound k h = record { is = λ o a b vs q s e l. absurd (omega (arith, e .count)) }
-
-pub binding-starts : (t bound : List ℕ) (k : ℕ) → Binding t bound k 0
-binding-starts t bound k = record { within = omega arith; same = λ o a b vs q s e. refl }
-
-module _ {t bound : List ℕ} {k i : ℕ} (w : Binding t bound k i) where
-  pub binding-done : getD t (k * 13 + 3) 0 ≤ i → BoundRow t bound k true
-  unfolding every
-  binding-done h = record {
-    is = λ o a b vs q s e l.
-        let g : length vs ≤ i = omega (arith, e .count) in
-        sym (w .same o a b vs q s e ∙ rw (drop-of-length-le vs g));
-  }
-
-  module _ (h : i < getD t (k * 13 + 3) 0) (few : getD t (k * 13 + 3) 0 ≤ 4) {r : Bool} (y : r ≡ eqb (sixteenth bound (getD t (k * 13 + 4 + i) 0)) 1) where
-    bound-next : (o : Order) (a b : ℕ) (vs : List ℕ) → o .bound ≡ bound → length bound ≡ 16 → Exchange a b vs k t → every (isBound o) vs ≡ (r && every (isBound o) (drop (i + 1) vs))
-    unfolding every
-    bound-next o a b vs q s e =
-        let g : i < length vs = omega (arith, e .count) in
-        let n : getD t (k * 13 + 4 + i) 0 ≡ getD vs i 0 = e .variables i (omega arith) in
-        let z : r ≡ isBound o (getD vs i 0) = y ∙ rw (sixteenth-all bound (getD t (k * 13 + 4 + i) 0) s, n, ← q) in
-        w .same o a b vs q s e ∙ rw (drop-cons vs i 0 g, ← z, add-one)
-
-    pub binding-again : not r ≡ false → Binding t bound k (i + 1)
-    binding-again z = record { within = omega arith; same = λ o a b vs q s e. bound-next o a b vs q s e ∙ rw (not-false r z) }
-
-    pub binding-stops : not r ≡ true → BoundRow t bound k false
-    binding-stops z = record { is = λ o a b vs q s e l. sym (bound-next o a b vs q s e ∙ rw (not-true r z)) }
 
 -- `take_letter`
 unchecked-few : (p : Plan) (o : Order) (vs : List ℕ) → unchecked p o vs ≤ length vs

@@ -7,17 +7,18 @@ use mathlib.Core.Path.{_≡_}
 use lib.Dec.{leb, eqb}
 use lib.ListN.{length, getD}
 use Rattle.plan.specs.Spells.{variablesOf}
-use Rattle.plan.specs.Tree.{Acts, Plan}
+use Rattle.plan.specs.Tree.{toPartner, toHeld, fromPartner, fromAsking, Acts, Plan}
 use Rattle.machine.specs.declared.Message.{Message}
 use Rattle.order.specs.declared.Order.{Order}
 use Rattle.machine.specs.declared.Step.{Step}
-use Rattle.fit.specs.Answering.{Exchange, Knows, Asking, UncheckedRow, messageAt, Picks}
+use Rattle.fit.specs.Answering.{Knows, Asking, UncheckedRow, messageAt, Picks}
 use Rattle.machine.specs.Calls.{Chosen, refusedChoice, chosen, previewed}
 use Rattle.machine.specs.Fit.{Doing, noStep, sends, takes, moves, cuts, closes, doingOf, Letter, mayTake}
+use Rattle.order.specs.Answering.{Bindings, Values}
 use Rattle.order.specs.Lists.{every}
 use Rattle.machine.specs.Offer.{Offer, offering, Offers, isCut, closeHeld, stepOffers}
 use Rattle.order.specs.Scope.{Scope, scopeAt}
-use Rattle.order.specs.State.{closingOf, isBound}
+use Rattle.order.specs.State.{closingOf}
 use Rattle.machine.specs.State.{noMessage}
 use Rattle.sight.specs.declared.Pointer.{Pointer}
 use Rattle.sight.specs.declared.Sight.{Sight}
@@ -92,29 +93,35 @@ pub record Remembers (o : Order) (parts : List ℕ) : Type 0 where
   pub long : length (o .remembered) ≡ 32
   pub is : (i : ℕ) → i < 32 → getD parts i 0 ≡ getD (o .remembered) i (closingOf 0 0) .part
 
--- with what it remembers and which variables are bound
-pub record Serving (known bound parts : List ℕ) (kept : ℕ) (letters : List ℕ) (waiting : ℕ) (least : List ℕ) (o : Order) (p : Plan) (l : List Letter) : Type 0 where
+-- with what it remembers, which variables are bound, and to what
+pub record Serving (known bound values parts : List ℕ) (kept : ℕ) (letters : List ℕ) (waiting : ℕ) (least : List ℕ) (o : Order) (p : Plan) (l : List Letter) : Type 0 where
   pub heeding : Heeding known letters waiting least o p l
-  pub bindings : o .bound ≡ bound
-  pub sixteen : length bound ≡ 16
+  pub bindings : Bindings o bound
+  pub holds : Values o values
   pub memory : Remembers o parts
   pub many : o .kept ≡ kept
 
 -- and its marks
-pub record Opening (t picks marks known bound parts : List ℕ) (kept : ℕ) (letters : List ℕ) (waiting : ℕ) (least : List ℕ) (o : Order) (p : Plan) (l : List Letter) : Type 0 where
+pub record Opening (t picks marks known bound values parts : List ℕ) (kept : ℕ) (letters : List ℕ) (waiting : ℕ) (least : List ℕ) (o : Order) (p : Plan) (l : List Letter) : Type 0 where
   pub picked : Picks t picks
   pub marked : o .marks ≡ marks
-  pub serving : Serving known bound parts kept letters waiting least o p l
+  pub serving : Serving known bound values parts kept letters waiting least o p l
 
--- the step of a row, by its kind and its partner and operation
-unfoldable pub doingBy : (kind partner operation : ℕ) → (variables : List ℕ) → Scope → Doing
-doingBy n a b vs s =
-    cond (eqb n 1) (sends a b vs)
-    (cond (eqb n 2 || eqb n 255) (takes a b vs)
+-- the kinds of sends: to a partner, or to the one that a variable holds
+unfoldable pub isSendCode : (kind : ℕ) → Bool
+isSendCode n = eqb n 1 || eqb n 17
+
+-- the step of a row, by its kind and its partner (of a send to a held partner: that to reply to), operation and variable
+unfoldable pub doingBy : (kind partner operation variable : ℕ) → (variables : List ℕ) → Scope → Doing
+doingBy n a b v vs s =
+    cond (eqb n 1) (sends (toPartner a) b vs)
+    (cond (eqb n 17) (sends (toHeld v a) b vs)
+    (cond (eqb n 2 || eqb n 255) (takes (fromPartner a) b vs)
+    (cond (eqb n 18) (takes (fromAsking a v) b vs)
     (cond (eqb n 11 || eqb n 14) (closes true s)
     (cond (eqb n 12) (closes false s)
     (cond (eqb n 13) cuts
-    (cond (leb 3 n && leb n 7) (cond (eqb n 4 || eqb n 5) cuts moves) noStep)))))
+    (cond (leb 3 n && leb n 7) (cond (eqb n 4 || eqb n 5) cuts moves) noStep)))))))
 
 -- r says whether row k awaits its step
 pub record AwaitsRow (t picks ms : List ℕ) (k : ℕ) (r : Bool) : Type 0 where
@@ -127,10 +134,6 @@ pub record CutRow (t : List ℕ) (k : ℕ) (r : Bool) : Type 0 where
 -- whether a line is an active raise or leave, or one was before
 unfoldable pub cutLine : Order → Plan → List Letter → Line → Bool → Bool
 cutLine o p l x c = cond (isReady (o .marks) x) (isCut (readyAt x) || c) c
-
--- r says whether all variables of row k are bound
-pub record BoundRow (t bound : List ℕ) (k : ℕ) (r : Bool) : Type 0 where
-  pub is : (o : Order) (a b : ℕ) (vs : List ℕ) → o .bound ≡ bound → length bound ≡ 16 → Exchange a b vs k t → length vs ≤ 4 → r ≡ every (isBound o) vs
 
 -- r says whether the close in row k, of a scope of this kind, is held: of the three kinds 12 has no undo part
 pub record ClosesRow (kind : ℕ) (parts : List ℕ) (kept k : ℕ) (r : Bool) : Type 0 where

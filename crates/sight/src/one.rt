@@ -12,17 +12,18 @@ pub fn row_sight(
     marks: &[u8; 256],
     known: &[u64; 16],
     bound: &[u8; 16],
+    values: &[u32; 16],
     parts: &[u8; 32],
     kept: usize,
     slot: usize,
     k: usize,
     cutting: bool,
-    letters: &[u32; 448],
+    letters: &[u32; 512],
     waiting: usize,
     least: &[usize; 64],
     s: Sight,
 ) -> Sight
-    ensures { λ r. ⌜ Rows (now (table .entry)) k (Opening (now (table .entry)) (now (picks .entry)) (now (marks .entry)) (now (known .entry)) (now (bound .entry)) (now (parts .entry)) kept (now (letters .entry)) waiting (now (least .entry))) (offerLine cutting waiting slot) s r ⌝ }
+    ensures { λ r. ⌜ Rows (now (table .entry)) k (Opening (now (table .entry)) (now (picks .entry)) (now (marks .entry)) (now (known .entry)) (now (bound .entry)) (now (values .entry)) (now (parts .entry)) kept (now (letters .entry)) waiting (now (least .entry))) (offerLine cutting waiting slot) s r ⌝ }
 {
     if 256 <= k {
         return s;
@@ -36,6 +37,7 @@ pub fn row_sight(
         marks,
         known,
         bound,
+        values,
         parts,
         kept,
         slot,

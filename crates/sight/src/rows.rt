@@ -6,10 +6,9 @@ use fit::fitness::asked_at;
 use fit::fitness::fits_at;
 use fit::fitness::unchecked_at;
 use fit::search::arm_open;
+use order::sending::may_send;
 use plan::kind;
-use plan::table::COUNT;
 use plan::table::Table;
-use plan::table::VARIABLES;
 use plan::table::WIDTH;
 ghost use Prim.Native.Nat.{_+_, _*_, _≤_, _<_};
 ghost use lib.Dec.{eqb};
@@ -17,9 +16,8 @@ ghost use lib.ListN.{getD};
 ghost use mathlib.Core.Bool.{false};
 ghost use mathlib.Core.Path.{_≡_};
 ghost use Rattle.plan.specs.Read.{isScopeCode};
-ghost use Rattle.fit.specs.Answering.{sixteenth};
 ghost use Rattle.fit.specs.Lines.{Rows, Wholes};
-ghost use Rattle.sight.specs.Sights.{Marked, Exchanging, Heeding, Serving, Opening, AwaitsRow, CutRow, cutLine, BoundRow, ClosesRow, TakesLetter, takeLine, doingLine, offerLine};
+ghost use Rattle.sight.specs.Sights.{Marked, Exchanging, Heeding, Serving, Opening, AwaitsRow, CutRow, cutLine, isSendCode, ClosesRow, TakesLetter, takeLine, doingLine, offerLine};
 
 // Whether a kind is that of a scope, with an undo part of its own, with none, or with fault parts by number.
 fn is_scope(kind: u32) -> bool
@@ -32,6 +30,16 @@ fn is_scope(kind: u32) -> bool
         return true;
     }
     kind == kind::NUMBERED_SCOPE
+}
+
+// Whether a kind is that of a send, to a partner or to the one that a variable holds.
+fn is_send(kind: u32) -> bool
+    ensures { λ r. ⌜ r ≡ isSendCode kind ⌝ }
+{
+    if kind == kind::SEND {
+        return true;
+    }
+    kind == kind::HELD_SEND
 }
 
 // Whether row k awaits its step.
@@ -94,37 +102,6 @@ pub fn cut_rows(table: &Table, marks: &[u8; 256], activities: usize) -> bool
     c
 }
 
-// Whether variable v is bound.
-fn bound_at(bound: &[u8; 16], v: u32) -> bool
-    ensures { λ r. ⌜ r ≡ eqb (sixteenth (now (bound .entry)) v) 1 ⌝ }
-{
-    if 16 <= v {
-        return false;
-    }
-    let i = v as usize;
-    bound[i] == 1
-}
-
-// Whether all variables of row k are bound.
-fn bound_row(table: &Table, bound: &[u8; 16], k: usize) -> bool
-    requires { ⌜ k < 256 ⌝ }
-    ensures { λ r. ⌜ BoundRow (now (table .entry)) (now (bound .entry)) k r ⌝ }
-{
-    let count = table[k * WIDTH + COUNT];
-    if 4 < count {
-        return false;
-    }
-    let many = count as usize;
-    let mut i: usize = 0;
-    while i < many {
-        if !bound_at(bound, table[k * WIDTH + VARIABLES + i]) {
-            return false;
-        }
-        i += 1;
-    }
-    true
-}
-
 // What the message at place j adds at the receive or arm in row k.
 fn take_letter(
     table: &Table,
@@ -132,7 +109,7 @@ fn take_letter(
     k: usize,
     asked: &[u64; 4],
     unchecked: usize,
-    letters: &[u32; 448],
+    letters: &[u32; 512],
     j: usize,
     least: usize,
     s: Sight,
@@ -155,7 +132,7 @@ fn take_row(
     known: &[u64; 16],
     slot: usize,
     k: usize,
-    letters: &[u32; 448],
+    letters: &[u32; 512],
     waiting: usize,
     least: &[usize; 64],
     s: Sight,
@@ -208,29 +185,33 @@ fn doing_row(
     table: &Table,
     known: &[u64; 16],
     bound: &[u8; 16],
+    values: &[u32; 16],
     parts: &[u8; 32],
     kept: usize,
     slot: usize,
     k: usize,
-    letters: &[u32; 448],
+    letters: &[u32; 512],
     waiting: usize,
     least: &[usize; 64],
     s: Sight,
 ) -> Sight
     requires { ⌜ (k < 256) × (waiting ≤ 64) ⌝ }
-    ensures { λ r. ⌜ Rows (now (table .entry)) k (Serving (now (known .entry)) (now (bound .entry)) (now (parts .entry)) kept (now (letters .entry)) waiting (now (least .entry))) (doingLine waiting slot) s r ⌝ }
+    ensures { λ r. ⌜ Rows (now (table .entry)) k (Serving (now (known .entry)) (now (bound .entry)) (now (values .entry)) (now (parts .entry)) kept (now (letters .entry)) waiting (now (least .entry))) (doingLine waiting slot) s r ⌝ }
 {
     let kind = table[k * WIDTH];
-    if kind == kind::SEND {
+    if is_send(kind) {
         if waiting < 64 {
             return shown(s, slot, k, 0);
         }
-        if bound_row(table, bound, k) {
+        if may_send(table, k, bound, values) {
             return withheld(s);
         }
         return shown(s, slot, k, 0);
     }
     if kind == kind::RECEIVE {
+        return take_row(table, known, slot, k, letters, waiting, least, s);
+    }
+    if kind == kind::ASKING_RECEIVE {
         return take_row(table, known, slot, k, letters, waiting, least, s);
     }
     if kind == kind::ARM {
@@ -261,18 +242,19 @@ pub(crate) fn offer_row(
     marks: &[u8; 256],
     known: &[u64; 16],
     bound: &[u8; 16],
+    values: &[u32; 16],
     parts: &[u8; 32],
     kept: usize,
     slot: usize,
     k: usize,
     cutting: bool,
-    letters: &[u32; 448],
+    letters: &[u32; 512],
     waiting: usize,
     least: &[usize; 64],
     s: Sight,
 ) -> Sight
     requires { ⌜ (k < 256) × (waiting ≤ 64) ⌝ }
-    ensures { λ r. ⌜ Rows (now (table .entry)) k (Opening (now (table .entry)) (now (picks .entry)) (now (marks .entry)) (now (known .entry)) (now (bound .entry)) (now (parts .entry)) kept (now (letters .entry)) waiting (now (least .entry))) (offerLine cutting waiting slot) s r ⌝ }
+    ensures { λ r. ⌜ Rows (now (table .entry)) k (Opening (now (table .entry)) (now (picks .entry)) (now (marks .entry)) (now (known .entry)) (now (bound .entry)) (now (values .entry)) (now (parts .entry)) kept (now (letters .entry)) waiting (now (least .entry))) (offerLine cutting waiting slot) s r ⌝ }
 {
     if awaits_at(table, picks, marks, k) {
         if cutting {
@@ -281,6 +263,7 @@ pub(crate) fn offer_row(
                     table,
                     known,
                     bound,
+                    values,
                     parts,
                     kept,
                     slot,
@@ -297,6 +280,7 @@ pub(crate) fn offer_row(
             table,
             known,
             bound,
+            values,
             parts,
             kept,
             slot,
@@ -317,17 +301,18 @@ pub fn offer_rows(
     marks: &[u8; 256],
     known: &[u64; 16],
     bound: &[u8; 16],
+    values: &[u32; 16],
     parts: &[u8; 32],
     kept: usize,
     slot: usize,
     activities: usize,
     cutting: bool,
-    letters: &[u32; 448],
+    letters: &[u32; 512],
     waiting: usize,
     least: &[usize; 64],
     s: Sight,
 ) -> Sight
-    ensures { λ r. ⌜ Wholes (now (table .entry)) activities (Opening (now (table .entry)) (now (picks .entry)) (now (marks .entry)) (now (known .entry)) (now (bound .entry)) (now (parts .entry)) kept (now (letters .entry)) waiting (now (least .entry))) (offerLine cutting waiting slot) s r ⌝ }
+    ensures { λ r. ⌜ Wholes (now (table .entry)) activities (Opening (now (table .entry)) (now (picks .entry)) (now (marks .entry)) (now (known .entry)) (now (bound .entry)) (now (values .entry)) (now (parts .entry)) kept (now (letters .entry)) waiting (now (least .entry))) (offerLine cutting waiting slot) s r ⌝ }
 {
     if 256 < activities {
         return s;
@@ -344,6 +329,7 @@ pub fn offer_rows(
             marks,
             known,
             bound,
+            values,
             parts,
             kept,
             slot,

@@ -12,10 +12,12 @@ use papers::Desk;
 use papers::changed;
 use papers::failed;
 use papers::refused;
+use phrases::has_more;
 use phrases::part;
 use plan::Answer;
 use plan::table::LENGTH;
 use plan::table::Table;
+use text::Word;
 
 // What stands at a place of a post: a number, the end of the line, a name that nobody has, or trouble.
 enum Next {
@@ -78,6 +80,27 @@ fn numbers_of(names: &[u8; 16896], line: &[u8], from: usize, numbers: &mut [u32;
     }
     Reading::Wrong {
         why: Trouble::Extra,
+    }
+}
+
+// Whom a post says to reply to, behind its word `reply`, by name or number; partner 0 where it names nobody.
+fn reply_of(names: &[u8; 16896], line: &[u8], w: Word) -> Next {
+    if w.to <= w.from {
+        return Next::Number { value: 0, to: w.to };
+    }
+    let x = next_of(names, line, w.to, 0);
+    match x {
+        Next::Number { value, to } => {
+            if has_more(line, to) {
+                return Next::Wrong {
+                    why: Trouble::Extra,
+                };
+            }
+            Next::Number { value, to }
+        }
+        Next::End => Next::End,
+        Next::Unnamed { from, to } => Next::Unnamed { from, to },
+        Next::Wrong { why } => Next::Wrong { why },
     }
 }
 
@@ -157,6 +180,32 @@ fn unnamed(desk: Desk, number: u64, word: &[u8], out: &mut [u8; 4096]) -> Desk {
     failed(desk, at)
 }
 
+// Posts a message by its numbers, so many of them; its partner to reply to stands behind the word `reply` of the line.
+fn posted_with(
+    desk: Desk,
+    line: &[u8],
+    reply: Word,
+    number: u64,
+    numbers: &[u32; 1001],
+    count: usize,
+    names: &[u8; 16896],
+    out: &mut [u8; 4096],
+) -> Desk {
+    if count < 2 {
+        return console::wrong(desk, number, Trouble::Missing, out);
+    }
+    let r = reply_of(names, line, reply);
+    match r {
+        Next::End => console::wrong(desk, number, Trouble::Missing, out),
+        Next::Wrong { why } => console::wrong(desk, number, why, out),
+        Next::Unnamed { from, to } => unnamed(desk, number, part(line, from, to), out),
+        Next::Number { value, to: _ } => {
+            let m = console::message_of(numbers, count - 2, value);
+            posted(desk, m, names, out)
+        }
+    }
+}
+
 // Posts a message.
 pub(crate) fn post(
     desk: Desk,
@@ -167,16 +216,20 @@ pub(crate) fn post(
     out: &mut [u8; 4096],
 ) -> Desk {
     let mut numbers = [0u32; 1001];
-    let n = numbers_of(names, line, from, &mut numbers);
+    let reply = console::reply_in(line, from);
+    let n = numbers_of(names, console::before(line, reply.from), from, &mut numbers);
     match n {
         Reading::Wrong { why } => console::wrong(desk, number, why, out),
         Reading::Unnamed { from, to } => unnamed(desk, number, part(line, from, to), out),
-        Reading::All { count } => {
-            if count < 2 {
-                return console::wrong(desk, number, Trouble::Missing, out);
-            }
-            let m = console::message_of(&numbers, count - 2);
-            posted(desk, m, names, out)
-        }
+        Reading::All { count } => posted_with(
+            desk,
+            line,
+            reply,
+            number,
+            &numbers,
+            count,
+            names,
+            out,
+        ),
     }
 }

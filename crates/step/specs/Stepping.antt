@@ -6,10 +6,10 @@ use mathlib.Core.List.{List, []}
 use mathlib.Core.Path.{_≡_}
 use lib.Dec.{eqb}
 use lib.ListN.{getD}
-use Rattle.plan.specs.Tree.{Plan, size}
+use Rattle.plan.specs.Tree.{To, replyOf, Plan, size}
 use Rattle.order.specs.declared.Order.{Order}
 use Rattle.order.specs.declared.Next.{Next}
-use Rattle.order.specs.Answering.{Names, Spelled, TakesOrder, StepsOrder}
+use Rattle.order.specs.Answering.{Names, toAt, Spelled, TakesOrder, StepsOrder}
 use Rattle.order.specs.Lists.{stored}
 use Rattle.order.specs.State.{noOrder, valueOf}
 use Rattle.machine.specs.declared.Mail.{Mail}
@@ -20,7 +20,7 @@ use Rattle.step.specs.declared.Change.{Change}
 use Rattle.step.specs.declared.Stepped.{Stepped}
 use Rattle.machine.specs.declared.Tally.{Tally}
 use Rattle.machine.specs.Calls as calls
-use Rattle.machine.specs.Calls.{doingAt, valuesOf, messagesAfter, answering, countEnd, choosing, chosen}
+use Rattle.machine.specs.Calls.{doingAt, valuesOf, gives, messagesAfter, answering, countEnd, choosing, chosen}
 use Rattle.machine.specs.Fit.{sends}
 use Rattle.machine.specs.Limits.{inLimits}
 use Rattle.machine.specs.Offer.{offering, sendHeld, offersOf}
@@ -41,14 +41,18 @@ pub record SentValues (t : List ℕ) (k : ℕ) (o : Order) (r : List ℕ) : Type
   pub is : (vs : List ℕ) → Names t k vs → r ≡ stored 4 (valuesOf o vs)
 
 -- row k sends this
-pub record SendRow (a b : ℕ) (vs : List ℕ) (k : ℕ) (t : List ℕ) : Type 0 where
-  pub partner : getD t (k * 13 + 1) 0 ≡ a
+pub record SendRow (a : To) (b : ℕ) (vs : List ℕ) (k : ℕ) (t : List ℕ) : Type 0 where
+  pub to : toAt t k ≡ a
   pub operation : getD t (k * 13 + 2) 0 ≡ b
   pub names : Names t k vs
 
+-- r is the reply partner that the message of the send in row k carries
+pub record SentReply (t : List ℕ) (k r : ℕ) : Type 0 where
+  pub is : r ≡ replyOf (toAt t k)
+
 -- r is the state after the send in row k
 pub record Sends (t : List ℕ) (k : ℕ) (o : Order) (s r : State) : Type 0 where
-  pub is : (a b : ℕ) (vs : List ℕ) (j : ℕ) → SendRow a b vs k t → sendHeld (s .waiting) o vs ≡ false → r ≡ messagesAfter (sends a b vs) j o s
+  pub is : (a : To) (b : ℕ) (vs : List ℕ) (j : ℕ) → SendRow a b vs k t → sendHeld (s .waiting) o a vs ≡ false → r ≡ messagesAfter (sends a b vs) j o s
 
 -- r are the messages after it
 pub record SendsMail (t : List ℕ) (k : ℕ) (o : Order) (messages : List Message) (waiting : ℕ) (r : Mail) : Type 0 where
@@ -70,7 +74,7 @@ pub record StepsSlot (t : List ℕ) (activities : ℕ) (s : State) (o : Order) (
 pub record Nexts (t : List ℕ) (activities : ℕ) (messages : List Message) (o : Order) (k j : ℕ) (m : Next) : Type 0 where
   pub values : List ℕ
   pub between : Order
-  pub read : values ≡ getD messages j noMessage .values
+  pub read : values ≡ gives (getD messages j noMessage)
   pub takes : TakesOrder t activities k values o between
   pub moves : StepsOrder t activities k between m
 

@@ -9,6 +9,8 @@ use mail::letters;
 use order::End;
 use order::Next;
 use order::Order;
+use order::sending::may_send;
+use order::sending::partner_to;
 use plan::kind;
 use plan::table::COUNT;
 use plan::table::OPERATION;
@@ -19,9 +21,9 @@ use plan::table::WIDTH;
 ghost use Prim.Native.Nat.{_<_};
 ghost use lib.ListN.{getD};
 ghost use mathlib.Core.Path.{_≡_};
-ghost use Rattle.machine.specs.Calls.{counted as countedOf, countStart, countEnd};
+ghost use Rattle.machine.specs.Calls.{gives, counted as countedOf, countStart, countEnd};
 ghost use Rattle.machine.specs.State.{noMessage};
-ghost use Rattle.step.specs.Stepping.{Worths, SentValues, SendsMail, MovesMail, Nexts, MovesFrom, Moves};
+ghost use Rattle.step.specs.Stepping.{Worths, SentValues, SentReply, SendsMail, MovesMail, Nexts, MovesFrom, Moves};
 
 // The value of variable v.
 fn value_of(order: Order, v: u32) -> u32
@@ -54,18 +56,32 @@ fn sent_values(table: &Table, k: usize, order: Order) -> [u32; 4]
     out
 }
 
-// The messages after the send in row k: its message is added where all its variables are bound.
+// The reply partner that the message of the send in row k carries: a send to a held partner has it in the place of a partner, and any other carries 0.
+fn sent_reply(table: &Table, k: usize) -> u32
+    requires { ⌜ k < 256 ⌝ }
+    ensures { λ r. ⌜ SentReply (now (table .entry)) k r ⌝ }
+{
+    if table[k * WIDTH] == kind::HELD_SEND {
+        return table[k * WIDTH + PARTNER];
+    }
+    0
+}
+
+// The messages after the send in row k: its message is added where it would send.
 fn sent(table: &Table, k: usize, order: Order, messages: [Message; 64], waiting: usize) -> Mail
     requires { ⌜ k < 256 ⌝ }
     ensures { λ r. ⌜ SendsMail (now (table .entry)) k order messages waiting r ⌝ }
 {
-    if activity::all_bound(table, k, order) {
+    let bound = order.bound;
+    let held = order.values;
+    if may_send(table, k, &bound, &held) {
         let values = sent_values(table, k, order);
         let m = Message {
-            partner: table[k * WIDTH + PARTNER],
+            partner: partner_to(table, k, &held),
             operation: table[k * WIDTH + OPERATION],
             count: table[k * WIDTH + COUNT],
             values,
+            reply: sent_reply(table, k),
         };
         return letters::with_message(messages, waiting, m);
     }
@@ -91,7 +107,13 @@ fn messages_after(
     if kind == kind::SEND {
         return sent(table, k, order, messages, waiting);
     }
+    if kind == kind::HELD_SEND {
+        return sent(table, k, order, messages, waiting);
+    }
     if kind == kind::RECEIVE {
+        return letters::without_message(messages, waiting, place);
+    }
+    if kind == kind::ASKING_RECEIVE {
         return letters::without_message(messages, waiting, place);
     }
     if kind == kind::ARM {
@@ -100,16 +122,23 @@ fn messages_after(
     Mail { messages, waiting }
 }
 
-// The values of the message at a place; none where there is no such place.
-fn letter_values(messages: [Message; 64], place: usize) -> [u32; 4]
-    ensures { λ r. ⌜ r ≡ getD messages place noMessage .values ⌝ }
+// What a message gives to whoever takes it: its four values, and then its reply partner.
+fn given_by(m: Message) -> [u32; 5]
+    ensures { λ r. ⌜ r ≡ gives m ⌝ }
+{
+    let values = m.values;
+    [values[0], values[1], values[2], values[3], m.reply]
+}
+
+// What the message at a place gives; nothing but zeros where there is no such place.
+fn letter_values(messages: [Message; 64], place: usize) -> [u32; 5]
+    ensures { λ r. ⌜ r ≡ gives (getD messages place noMessage) ⌝ }
 {
     if place < 64 {
         let m = messages[place];
-        return m.values;
+        return given_by(m);
     }
-    let none = made::no_message();
-    none.values
+    given_by(made::no_message())
 }
 
 // One more, up to the greatest.

@@ -61,7 +61,7 @@ tally-back t r w =
     let e : numberIn 4 (drop 16 s) ≡ t .left = number-back 4 (t .left) _ (w .left) in
     λ i. record { started = a i; well = b i; handled = c i; failed = d i; left = e i }
 
-message-long : (m : Message) → WholeMessage m → length (messageBytes m) ≡ 28
+message-long : (m : Message) → WholeMessage m → length (messageBytes m) ≡ 32
 unfolding messageBytes
 message-long m w =
     simp (length-append, spelled-long, words-long (m .values) 4 (w .values) (w .values-long))
@@ -73,8 +73,13 @@ message-back m r w =
     let a : numberIn 4 s ≡ m .partner = number-back 4 (m .partner) _ (w .partner) in
     let b : numberIn 4 (drop 4 s) ≡ m .operation = number-back 4 (m .operation) _ (w .operation) in
     let c : numberIn 4 (drop 8 s) ≡ m .count = number-back 4 (m .count) _ (w .count) in
-    let d : manyIn (numberIn 4) 4 4 (drop 12 s) ≡ m .values = words-back (m .values) 4 r (w .values) (w .values-long) in
-    λ i. record { partner = a i; operation = b i; count = c i; values = d i }
+    let v = each (spelled 4) (m .values) in
+    let t = spelled 4 (m .reply) ++ r in
+    let p : drop 12 s ≡ v ++ t = append-assoc v (spelled 4 (m .reply)) r in
+    let q : drop 28 s ≡ t = ap (drop 16) p ∙ past 16 0 v t (words-long (m .values) 4 (w .values) (w .values-long)) in
+    let d : manyIn (numberIn 4) 4 4 (drop 12 s) ≡ m .values = rw p (words-back (m .values) 4 t (w .values) (w .values-long)) in
+    let e : numberIn 4 (drop 28 s) ≡ m .reply = rw q (number-back 4 (m .reply) r (w .reply)) in
+    λ i. record { partner = a i; operation = b i; count = c i; values = d i; reply = e i }
 
 -- closings, of which nothing need be known
 always : {A : Type 0} (l : List A) → Each (λ (x : A). Unit) l
@@ -120,10 +125,10 @@ order-back o r w =
     let x : getD s 408 0 ≡ o .cause = sym (getD-drop 408 s 0 0) ∙ ap (λ (t : List ℕ). getD t 0 0) y in
     ap orderIn e ∙ (λ i. record { root = o .root; marks = m i; values = b i; bound = c i; remembered = d i; kept = f i; cause = x i })
 
-state-long : (s : State) → WholeState s → length (stateBytes s) ≡ 12464
+state-long : (s : State) → WholeState s → length (stateBytes s) ≡ 12720
 unfolding stateBytes
 state-long s w =
-    let m = each-long messageBytes WholeMessage 28 message-long (s .messages) (w .messages) in
+    let m = each-long messageBytes WholeMessage 32 message-long (s .messages) (w .messages) in
     let o = each-long orderBytes WholeOrder 410 order-long (s .orders) (w .orders) in
     simp (length-append, spelled-long, m, o, w .plan-long, w .messages-long, w .orders-long)
 
@@ -136,28 +141,28 @@ state-back s r w =
     let o = each orderBytes (s .orders) ++ r in
     let i = spelled-long 8 (s .length) in
     let j = spelled-long 8 (s .waiting) in
-    let k : length m ≡ 1792 = each-long messageBytes WholeMessage 28 message-long (s .messages) (w .messages) ∙ rw (w .messages-long) in
+    let k : length m ≡ 2048 = each-long messageBytes WholeMessage 32 message-long (s .messages) (w .messages) ∙ rw (w .messages-long) in
     let b = n ++ (s .plan ++ (h ++ (m ++ o))) in
     let e : stateBytes s ++ r ≡ b = simp append-assoc in
     let p : drop 8 b ≡ s .plan ++ (h ++ (m ++ o)) = past 8 0 n _ i in
     let q : drop 4104 b ≡ h ++ (m ++ o) = past 8 4096 n _ i ∙ past 4096 0 (s .plan) _ (w .plan-long) in
     let t : drop 4112 b ≡ m ++ o = past 8 4104 n _ i ∙ past 4096 8 (s .plan) _ (w .plan-long) ∙ past 8 0 h _ j in
-    let u : drop 5904 b ≡ o = past 8 5896 n _ i ∙ past 4096 1800 (s .plan) _ (w .plan-long) ∙ past 8 1792 h _ j ∙ past 1792 0 m _ k in
+    let u : drop 6160 b ≡ o = past 8 6152 n _ i ∙ past 4096 2056 (s .plan) _ (w .plan-long) ∙ past 8 2048 h _ j ∙ past 2048 0 m _ k in
     let a : take 4096 (drop 8 b) ≡ s .plan = rw p (take-at (s .plan) _ 4096 (w .plan-long)) in
     let c : numberIn 8 b ≡ s .length = number-back 8 (s .length) _ (w .length-fits) in
     let d : numberIn 8 (drop 4104 b) ≡ s .waiting = rw q (number-back 8 (s .waiting) _ (w .waiting)) in
-    let f : manyIn messageIn 28 64 (drop 4112 b) ≡ s .messages =
-    rw t (many-back messageIn messageBytes WholeMessage 28 message-back message-long (s .messages) 64 o (w .messages) (w .messages-long)) in
-    let g : manyIn orderIn 410 16 (drop 5904 b) ≡ s .orders =
+    let f : manyIn messageIn 32 64 (drop 4112 b) ≡ s .messages =
+    rw t (many-back messageIn messageBytes WholeMessage 32 message-back message-long (s .messages) 64 o (w .messages) (w .messages-long)) in
+    let g : manyIn orderIn 410 16 (drop 6160 b) ≡ s .orders =
     rw u (many-back orderIn orderBytes WholeOrder 410 order-back order-long (s .orders) 16 r (w .orders) (w .orders-long)) in
     ap stateIn e ∙ (λ x. record { plan = a x; length = c x; orders = g x; messages = f x; waiting = d x })
 
-packed-long : (s : State) (t : Tally) → WholeState s → length (packed s t) ≡ 12492
+packed-long : (s : State) (t : Tally) → WholeState s → length (packed s t) ≡ 12748
 unfolding packed tallyBytes
 packed-long s t w = simp (length-append, spelled-long, state-long s w)
 
 -- in front stands the mark, then the tally, then the state
-packed-mark : (s : State) (t : Tally) → numberIn 8 (packed s t) ≡ 3696401172971605837
+packed-mark : (s : State) (t : Tally) → numberIn 8 (packed s t) ≡ 3768458767009533773
 unfolding packed numberIn valued
 packed-mark s t = refl
 
@@ -195,9 +200,9 @@ and-right false b h = let z : _≡_ {A = Bool} false true = h in cc
 pub held-marked : (s : List ℕ) → Each (λ b. b < 256) (take 8 s) → holds s ≡ true → take 8 s ≡ mark
 unfolding holds
 held-marked s p h =
-    let a = eqb (length s) 12492 in
+    let a = eqb (length s) 12748 in
     let b = eqb (numberIn 8 s) (valued mark) in
-    let l : length s ≡ 12492 = eqb-true (length s) 12492 (and-left a b h) in
+    let l : length s ≡ 12748 = eqb-true (length s) 12748 (and-left a b h) in
     let e : numberIn 8 s ≡ valued mark = eqb-true (numberIn 8 s) (valued mark) (and-right a b h) in
     let n : length (take 8 s) ≡ 8 = length-take-le 8 s (omega arith) in
     sym (spelled-valued (take 8 s) p) ∙ rw n (ap (spelled 8) (first-valued s ∙ e) ∙ mark-spelled)

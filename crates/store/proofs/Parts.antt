@@ -26,9 +26,11 @@ closing-put x a b = then a b refl refl
 module _ {l m n o p : List ℕ} {at : ℕ} where
   pub message-put : (x : Message) → WholeMessage x → Put l m at 4 (spelled 4 (x .partner)) → Put m n (at + 4) 4 (spelled 4 (x .operation))
       → Put n o (at + 8) 4 (spelled 4 (x .count)) → Put o p (at + 12) (length (x .values) * 4) (each (spelled 4) (x .values))
-      → Put l p at 28 (messageBytes x)
+      → {q : List ℕ} → Put p q (at + 28) 4 (spelled 4 (x .reply)) → Put l q at 32 (messageBytes x)
   unfolding messageBytes
-  message-put x w a b c d = then (then (then a b refl (refl {a = 8})) c refl (refl {a = 12})) d refl (omega arith)
+  message-put x w a b c d e =
+      let f = then {r = 28} (then (then a b refl (refl {a = 8})) c refl (refl {a = 12})) d refl (omega arith) in
+      then f e refl refl
 
   module _ {q : List ℕ} where
     pub tally-put : (t : Tally) → Put l m at 4 (spelled 4 (t .started)) → Put m n (at + 4) 4 (spelled 4 (t .well))
@@ -51,12 +53,12 @@ module _ {l m n o p : List ℕ} {at : ℕ} where
 
     pub state-put : (x : State) → WholeState x → Put l m at 8 (spelled 8 (x .length))
         → Put m n (at + 8) (length (x .plan)) (x .plan) → Put n o (at + 4104) 8 (spelled 8 (x .waiting))
-        → Put o p (at + 4112) 1792 (each messageBytes (x .messages)) → Put p q (at + 5904) 6560 (each orderBytes (x .orders))
-        → Put l q at 12464 (stateBytes x)
+        → Put o p (at + 4112) 2048 (each messageBytes (x .messages)) → Put p q (at + 6160) 6560 (each orderBytes (x .orders))
+        → Put l q at 12720 (stateBytes x)
     unfolding stateBytes
     state-put x w a b c d e =
         let f = then {r = 4104} a b refl (omega arith) in
-        then (then (then f c refl (refl {a = 4112})) d refl (refl {a = 5904})) e refl refl
+        then (then (then f c refl (refl {a = 4112})) d refl (refl {a = 6160})) e refl refl
 
 -- there is room for a list of a known length
 pub room-bytes : {n : ℕ} (k p : ℕ) (l : List ℕ) → length l ≡ k → p + k ≤ n → p + length l ≤ n
@@ -67,22 +69,22 @@ room-fours k p l e h = omega arith
 
 -- `pack`
 module _ {l m n o : List ℕ} (s : State) (t : Tally) where
-  pub pack-is : length l ≡ 12492 → Put l m 0 8 (spelled 8 3696401172971605837) → Put m n 8 20 (tallyBytes t) → Put n o 28 12464 (stateBytes s)
+  pub pack-is : length l ≡ 12748 → Put l m 0 8 (spelled 8 3768458767009533773) → Put m n 8 20 (tallyBytes t) → Put n o 28 12720 (stateBytes s)
       → o ≡ packedInto s t l
   unfolding packedInto packed spelled
   pack-is e a b c = rw e (put-all (then (then a b refl (refl {a = 28})) c refl refl) e)
 
-pub pack-no : (s : State) (t : Tally) (l : List ℕ) → (length l ≡ 12492 → ⊥) → l ≡ packedInto s t l
+pub pack-no : (s : State) (t : Tally) (l : List ℕ) → (length l ≡ 12748 → ⊥) → l ≡ packedInto s t l
 unfolding packedInto
-pack-no s t l e = rw (ne-eqb (length l) 12492 e)
+pack-no s t l e = rw (ne-eqb (length l) 12748 e)
 
 -- `write_message`
-pub message-fits : (m : Message) (l : List ℕ) {o : List ℕ} → 28 ≤ length l → Put l o 0 28 (messageBytes m) → o ≡ messageInto m l
+pub message-fits : (m : Message) (l : List ℕ) {o : List ℕ} → 32 ≤ length l → Put l o 0 32 (messageBytes m) → o ≡ messageInto m l
 unfolding messageInto
 message-fits m l h p =
-    let z : 0 + length (messageBytes m) ≡ 28 = omega (arith, p .size) in
-    p .is ∙ sets-eq (messageBytes m) l 0 (omega (arith, p .size)) ∙ rw (z, le-leb 28 (length l) h)
+    let z : 0 + length (messageBytes m) ≡ 32 = omega (arith, p .size) in
+    p .is ∙ sets-eq (messageBytes m) l 0 (omega (arith, p .size)) ∙ rw (z, le-leb 32 (length l) h)
 
-pub message-no : (m : Message) (l : List ℕ) → length l < 28 → l ≡ messageInto m l
+pub message-no : (m : Message) (l : List ℕ) → length l < 32 → l ≡ messageInto m l
 unfolding messageInto
-message-no m l h = rw (lt-leb 28 (length l) h)
+message-no m l h = rw (lt-leb 32 (length l) h)

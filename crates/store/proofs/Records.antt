@@ -25,11 +25,11 @@ module _ (s : List ℕ) (at : ℕ) where
   unfolding tallyIn
   tally-is f g h i j = simp (drop-drop, f, g, h, i, j)
 
-  pub message-is : {a b c : ℕ} {v : List ℕ} → a ≡ numberIn 4 (drop at s) → b ≡ numberIn 4 (drop (at + 4) s) → c ≡ numberIn 4 (drop (at + 8) s)
-      → v ≡ manyIn (numberIn 4) 4 4 (drop (at + 12) s)
-      → _≡_ {A = Message} (record { partner = a; operation = b; count = c; values = v }) (messageIn (drop at s))
+  pub message-is : {a b c e : ℕ} {v : List ℕ} → a ≡ numberIn 4 (drop at s) → b ≡ numberIn 4 (drop (at + 4) s) → c ≡ numberIn 4 (drop (at + 8) s)
+      → v ≡ manyIn (numberIn 4) 4 4 (drop (at + 12) s) → e ≡ numberIn 4 (drop (at + 28) s)
+      → _≡_ {A = Message} (record { partner = a; operation = b; count = c; values = v; reply = e }) (messageIn (drop at s))
   unfolding messageIn
-  message-is f g h i = simp (drop-drop, f, g, h, i)
+  message-is f g h i j = simp (drop-drop, f, g, h, i, j)
 
   pub closing-is : _≡_ {A = Closing} (record { scope = getD s at 0; part = getD s (at + 1) 0 }) (closingIn (drop at s))
   unfolding closingIn
@@ -42,7 +42,7 @@ module _ (s : List ℕ) (at : ℕ) where
   order-is f g h i j = simp (drop-drop, getD-drop, add-zero, f, g, h, i, j)
 
   pub state-is : {p : List ℕ} {n w : ℕ} {o : List Order} {m : List Message} → p ≡ take 4096 (drop (at + 8) s) → n ≡ numberIn 8 (drop at s)
-      → w ≡ numberIn 8 (drop (at + 4104) s) → m ≡ manyIn messageIn 28 64 (drop (at + 4112) s) → o ≡ manyIn orderIn 410 16 (drop (at + 5904) s)
+      → w ≡ numberIn 8 (drop (at + 4104) s) → m ≡ manyIn messageIn 32 64 (drop (at + 4112) s) → o ≡ manyIn orderIn 410 16 (drop (at + 6160) s)
       → _≡_ {A = State} (record { plan = p; length = n; orders = o; messages = m; waiting = w }) (stateIn (drop at s))
   unfolding stateIn
   state-is f g h i j = simp (drop-drop, f, g, h, i, j)
@@ -66,15 +66,15 @@ pub nothing-is : {s : State} {t : Tally} → s ≡ unplanned → t ≡ noTally �
 nothing-is e f = rw (e, f)
 
 module _ (s : List ℕ) where
-  pub unpack-is : {x : State} {t : Tally} → length s ≡ 12492 → numberIn 8 s ≡ 3696401172971605837 → t ≡ tallyIn (drop 8 s) → x ≡ stateIn (drop 28 s)
+  pub unpack-is : {x : State} {t : Tally} → length s ≡ 12748 → numberIn 8 s ≡ 3768458767009533773 → t ≡ tallyIn (drop 8 s) → x ≡ stateIn (drop 28 s)
       → keptAs false x t ≡ unpacked s
   unfolding unpacked holds valued
   unpack-is e f g h = rw (e, f, g, h)
 
-  pub unpack-mark : {k : Kept} → length s ≡ 12492 → (numberIn 8 s ≡ 3696401172971605837 → ⊥) → k ≡ keptAs true unplanned noTally → k ≡ unpacked s
+  pub unpack-mark : {k : Kept} → length s ≡ 12748 → (numberIn 8 s ≡ 3768458767009533773 → ⊥) → k ≡ keptAs true unplanned noTally → k ≡ unpacked s
   unfolding unpacked holds valued
-  unpack-mark e f g = rw (e, ne-eqb (numberIn 8 s) 3696401172971605837 f, g)
+  unpack-mark e f g = rw (e, ne-eqb (numberIn 8 s) 3768458767009533773 f, g)
 
-  pub unpack-size : {k : Kept} → (length s ≡ 12492 → ⊥) → k ≡ keptAs true unplanned noTally → k ≡ unpacked s
+  pub unpack-size : {k : Kept} → (length s ≡ 12748 → ⊥) → k ≡ keptAs true unplanned noTally → k ≡ unpacked s
   unfolding unpacked holds
-  unpack-size e g = rw (ne-eqb (length s) 12492 e, g)
+  unpack-size e g = rw (ne-eqb (length s) 12748 e, g)

@@ -1,4 +1,4 @@
-// A state with its tally as 12,492 bytes, and back.
+// A state with its tally as 12,748 bytes, and back.
 mod reading;
 mod writing;
 
@@ -22,15 +22,15 @@ pub struct Kept {
     pub tally: Tally,
 }
 
-// Writes a state with its tally into the caller's bytes, and says whether there are 12,492 of them; it writes nothing where there are not.
+// Writes a state with its tally into the caller's bytes, and says whether there are 12,748 of them; it writes nothing where there are not.
 // What it writes is read back as the same, for every state and tally there is.
 pub fn pack(state: State, tally: Tally, out: &mut [u8]) -> bool
-    ensures fits { λ r. ⌜ r ≡ eqb (length (now (out .entry))) 12492 ⌝ }
+    ensures fits { λ r. ⌜ r ≡ eqb (length (now (out .entry))) 12748 ⌝ }
     ensures is { λ _. ⌜ now (out .exit) ≡ packedInto state tally (now (out .entry)) ⌝ }
     ensures back { λ _. ⌜ unpacked (packed state tally) ≡ keptAs false state tally ⌝ }
 {
-    if out.len() == 12492 {
-        writing::put_number(out, 0, 8, 3696401172971605837);
+    if out.len() == 12748 {
+        writing::put_number(out, 0, 8, 3768458767009533773);
         writing::put_tally(out, 8, tally);
         writing::put_state(out, 28, state);
         return true;
@@ -38,12 +38,12 @@ pub fn pack(state: State, tally: Tally, out: &mut [u8]) -> bool
     false
 }
 
-// Writes a message into the first 28 of the caller's bytes, and says whether there are as many; it writes nothing where there are not.
+// Writes a message into the first 32 of the caller's bytes, and says whether there are as many; it writes nothing where there are not.
 pub fn write_message(m: Message, out: &mut [u8]) -> bool
-    ensures fits { λ r. ⌜ r ≡ leb 28 (length (now (out .entry))) ⌝ }
+    ensures fits { λ r. ⌜ r ≡ leb 32 (length (now (out .entry))) ⌝ }
     ensures is { λ _. ⌜ now (out .exit) ≡ messageInto m (now (out .entry)) ⌝ }
 {
-    if 28 <= out.len() {
+    if 32 <= out.len() {
         writing::put_message(out, 0, m);
         return true;
     }
@@ -83,6 +83,7 @@ fn no_state() -> State
         operation: 0,
         count: 0,
         values: [0u32; 4],
+        reply: 0,
     };
     let orders = [o; 16];
     let messages = [m; 64];
@@ -112,8 +113,8 @@ fn nothing() -> Kept
 pub fn unpack(s: &[u8]) -> Kept
     ensures { λ r. ⌜ r ≡ unpacked (now (s .entry)) ⌝ }
 {
-    if s.len() == 12492 {
-        if reading::eight_at(s, 0) == 3696401172971605837 {
+    if s.len() == 12748 {
+        if reading::eight_at(s, 0) == 3768458767009533773 {
             let tally = reading::tally_at(s, 8);
             let state = reading::state_at(s, 28);
             return Kept {

@@ -90,7 +90,7 @@ pub(crate) fn tally_at(s: &[u8], at: usize) -> Tally
 
 // A message.
 fn message_at(s: &[u8], at: usize) -> Message
-    requires { ⌜ at + 28 ≤ length (now s) ⌝ }
+    requires { ⌜ at + 32 ≤ length (now s) ⌝ }
     ensures { λ r. ⌜ r ≡ messageIn (drop at (now (s .entry))) ⌝ }
 {
     let mut values = [0u32; 4];
@@ -100,6 +100,7 @@ fn message_at(s: &[u8], at: usize) -> Message
         operation: four_at(s, at + 4),
         count: four_at(s, at + 8),
         values,
+        reply: four_at(s, at + 28),
     }
 }
 
@@ -159,14 +160,14 @@ fn order_at(s: &[u8], at: usize) -> Order
 
 // The messages.
 fn messages_at(s: &[u8], at: usize) -> [Message; 64]
-    requires { ⌜ at + 1792 ≤ length (now s) ⌝ }
-    ensures { λ r. ⌜ r ≡ manyIn messageIn 28 64 (drop at (now (s .entry))) ⌝ }
+    requires { ⌜ at + 2048 ≤ length (now s) ⌝ }
+    ensures { λ r. ⌜ r ≡ manyIn messageIn 32 64 (drop at (now (s .entry))) ⌝ }
 {
     let m = message_at(s, at);
     let mut out = [m; 64];
     let mut i = 0;
     while i < 64 {
-        let n = message_at(s, at + i * 28);
+        let n = message_at(s, at + i * 32);
         out[i] = n;
         i += 1;
     }
@@ -191,7 +192,7 @@ fn orders_at(s: &[u8], at: usize) -> [Order; 16]
 
 // A state.
 pub(crate) fn state_at(s: &[u8], at: usize) -> State
-    requires { ⌜ at + 12464 ≤ length (now s) ⌝ }
+    requires { ⌜ at + 12720 ≤ length (now s) ⌝ }
     ensures { λ r. ⌜ r ≡ stateIn (drop at (now (s .entry))) ⌝ }
 {
     let mut bytes = [0u8; 4096];
@@ -199,7 +200,7 @@ pub(crate) fn state_at(s: &[u8], at: usize) -> State
     let length = eight_at(s, at);
     let waiting = eight_at(s, at + 4104);
     let messages = messages_at(s, at + 4112);
-    let orders = orders_at(s, at + 5904);
+    let orders = orders_at(s, at + 6160);
     State {
         plan: bytes,
         length,

@@ -88,14 +88,15 @@ pub(crate) fn put_tally(out: &mut [u8], at: usize, tally: Tally)
 
 // A message.
 pub(crate) fn put_message(out: &mut [u8], at: usize, m: Message)
-    requires { ⌜ at + 28 ≤ length (now out) ⌝ }
-    ensures { λ _. ⌜ Put (now (out .entry)) (now (out .exit)) at 28 (messageBytes m) ⌝ }
+    requires { ⌜ at + 32 ≤ length (now out) ⌝ }
+    ensures { λ _. ⌜ Put (now (out .entry)) (now (out .exit)) at 32 (messageBytes m) ⌝ }
 {
     let values = m.values;
     put_four(out, at, m.partner);
     put_four(out, at + 4, m.operation);
     put_four(out, at + 8, m.count);
     put_fours(out, at + 12, &values);
+    put_four(out, at + 28, m.reply);
 }
 
 // A closing.
@@ -140,13 +141,13 @@ fn put_order(out: &mut [u8], at: usize, o: Order)
 
 // The messages.
 fn put_messages(out: &mut [u8], at: usize, messages: [Message; 64])
-    requires { ⌜ at + 1792 ≤ length (now out) ⌝ }
-    ensures { λ _. ⌜ Put (now (out .entry)) (now (out .exit)) at 1792 (each messageBytes messages) ⌝ }
+    requires { ⌜ at + 2048 ≤ length (now out) ⌝ }
+    ensures { λ _. ⌜ Put (now (out .entry)) (now (out .exit)) at 2048 (each messageBytes messages) ⌝ }
 {
     let mut i = 0;
     while i < 64 {
         let m = messages[i];
-        put_message(out, at + i * 28, m);
+        put_message(out, at + i * 32, m);
         i += 1;
     }
 }
@@ -166,12 +167,12 @@ fn put_orders(out: &mut [u8], at: usize, orders: [Order; 16])
 
 // A state.
 pub(crate) fn put_state(out: &mut [u8], at: usize, state: State)
-    requires { ⌜ at + 12464 ≤ length (now out) ⌝ }
-    ensures { λ _. ⌜ Put (now (out .entry)) (now (out .exit)) at 12464 (stateBytes state) ⌝ }
+    requires { ⌜ at + 12720 ≤ length (now out) ⌝ }
+    ensures { λ _. ⌜ Put (now (out .entry)) (now (out .exit)) at 12720 (stateBytes state) ⌝ }
 {
     put_eight(out, at, state.length);
     put_bytes(out, at + 8, &state.plan);
     put_eight(out, at + 4104, state.waiting);
     put_messages(out, at + 4112, state.messages);
-    put_orders(out, at + 5904, state.orders);
+    put_orders(out, at + 6160, state.orders);
 }

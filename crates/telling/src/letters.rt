@@ -17,7 +17,7 @@ use plan::table::Table;
 // Whether row n is a receive or an arm.
 fn is_receive(table: &Table, n: usize) -> bool {
     match entry(table, n, KIND) {
-        kind::RECEIVE | kind::ARM => true,
+        kind::RECEIVE | kind::ASKING_RECEIVE | kind::ARM => true,
         _ => false,
     }
 }
@@ -42,6 +42,22 @@ pub fn is_received(table: &Table, activities: usize, partner: u32) -> bool {
     false
 }
 
+// Whether row n sends to a partner: one whose partner a variable holds may send to any.
+fn sends_to(table: &Table, n: usize, partner: u32) -> bool {
+    match entry(table, n, KIND) {
+        kind::SEND => entry(table, n, PARTNER) == partner,
+        kind::HELD_SEND => true,
+        _ => false,
+    }
+}
+
+fn is_with(table: &Table, n: usize, receiving: bool, partner: u32) -> bool {
+    if receiving {
+        return receives_on(table, n, partner);
+    }
+    sends_to(table, n, partner)
+}
+
 // Whether row n, a send or, where `receiving`, a receive, is of this partner, operation and count.
 fn is_of(
     table: &Table,
@@ -51,10 +67,7 @@ fn is_of(
     operation: u32,
     count: u32,
 ) -> bool {
-    if is_receive(table, n) != receiving {
-        return false;
-    }
-    if entry(table, n, PARTNER) != partner {
+    if !is_with(table, n, receiving, partner) {
         return false;
     }
     if entry(table, n, OPERATION) != operation {
@@ -241,7 +254,41 @@ fn put_place(
     put_value(out, used, names, v, front, value)
 }
 
-// A message: operation, partner and values.
+// Whether row n takes messages like m, and stores whom to reply to.
+fn is_storing(table: &Table, n: usize, m: Message) -> bool {
+    if entry(table, n, KIND) == kind::ASKING_RECEIVE {
+        return is_of(table, n, true, m.partner, m.operation, m.count);
+    }
+    false
+}
+
+// Whether it matters whom to reply to: partner 0, which is also what a message has that names nobody, only where a receive of the plan stores it.
+fn is_reply_told(table: &Table, activities: usize, m: Message) -> bool {
+    if m.reply != 0 {
+        return true;
+    }
+    let mut n = 0;
+    while n < activities {
+        if is_storing(table, n, m) {
+            return true;
+        }
+        n += 1;
+    }
+    false
+}
+
+// Behind a message, whom to reply to.
+pub(crate) fn put_reply(
+    out: &mut [u8; 4096],
+    used: usize,
+    names: &[u8; 16896],
+    reply: u32,
+) -> usize {
+    let at = put(out, used, b"; reply to ");
+    put_partner(out, at, names, reply)
+}
+
+// A message: operation, partner and values, and whom to reply to, where that matters.
 pub fn put_letter(
     out: &mut [u8; 4096],
     used: usize,
@@ -251,6 +298,10 @@ pub fn put_letter(
     m: Message,
 ) -> usize {
     let receiving = is_received(table, activities, m.partner);
-    let at = put_exchange(out, used, names, receiving, m.partner, m.operation);
-    put_values(out, at, names, table, activities, receiving, m)
+    let mut at = put_exchange(out, used, names, receiving, m.partner, m.operation);
+    at = put_values(out, at, names, table, activities, receiving, m);
+    if is_reply_told(table, activities, m) {
+        return put_reply(out, at, names, m.reply);
+    }
+    at
 }

@@ -20,16 +20,16 @@ fn begun(table: &Table, order: Order) -> Order {
     order
 }
 
-// The order after the step's own deed, before it is judged.
+// The order after the step's own deed, before it is judged. A message gives its values, and then whom to reply to.
 pub(crate) fn deed_of(
     table: &Table,
     activities: usize,
     order: Order,
     n: usize,
-    values: [u32; 4],
+    given: [u32; 5],
 ) -> Next {
     let o = begun(table, order);
-    let p = acting::taken_order(table, activities, o, n, values);
+    let p = acting::taken_order(table, activities, o, n, given);
     acting::acted(table, activities, p, n, false)
 }
 
@@ -58,7 +58,7 @@ fn mark_at(marks: &[u8; 256], n: usize) -> u8 {
 // Whether row n is an open receive or arm.
 fn is_open(table: &Table, picks: &[usize; 256], marks: &[u8; 256], n: usize) -> bool {
     match entry(table, n, KIND) {
-        kind::RECEIVE => mark_at(marks, n) == 1,
+        kind::RECEIVE | kind::ASKING_RECEIVE => mark_at(marks, n) == 1,
         kind::ARM => fit::search::arm_open(table, picks, marks, n),
         _ => false,
     }

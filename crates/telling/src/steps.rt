@@ -1,5 +1,8 @@
 // A step in words, as it was taken.
 use super::letters::put_letter;
+use super::ready::SENDS;
+use super::ready::fault_of;
+use super::ready::put_sending_fault;
 use super::ready::put_sent;
 use super::settled::deed_of;
 use super::settled::put_raises;
@@ -71,7 +74,7 @@ fn put_took(
     put_letter(out, at, names, table, activities, m)
 }
 
-// A send whose variables are not all bound is a fault.
+// A send, or the fault that it is.
 fn put_send(
     out: &mut [u8; 4096],
     used: usize,
@@ -83,13 +86,15 @@ fn put_send(
 ) -> usize {
     let bound = order.bound;
     let values = order.values;
-    if activity::all_bound(table, n, order) {
-        let at = put(out, used, b"sent ");
-        return put_sent(out, at, names, table, flags, n, &bound, &values);
+    let cause = fault_of(table, n, &bound, &values);
+    let mut at = used;
+    if cause == SENDS {
+        at = put(out, at, b"sent ");
+    } else {
+        at = put(out, at, b"faulted: it could not send ");
     }
-    let mut at = put(out, used, b"faulted: it could not send ");
     at = put_sent(out, at, names, table, flags, n, &bound, &values);
-    at
+    put_sending_fault(out, at, names, cause)
 }
 
 fn put_set(
@@ -188,8 +193,16 @@ fn put_did(
     m: Message,
 ) -> usize {
     match entry(table, n, KIND) {
-        kind::SEND => put_send(out, used, names, table, flags, n, order),
-        kind::RECEIVE | kind::ARM => put_took(out, used, names, table, activities, order.root, m),
+        kind::SEND | kind::HELD_SEND => put_send(out, used, names, table, flags, n, order),
+        kind::RECEIVE | kind::ASKING_RECEIVE | kind::ARM => put_took(
+            out,
+            used,
+            names,
+            table,
+            activities,
+            order.root,
+            m,
+        ),
         kind::SET => put_set(
             out,
             used,
@@ -233,7 +246,8 @@ fn put_behind(
     n: usize,
 ) -> usize {
     let values = m.values;
-    let next = deed_of(table, activities, order, n, values);
+    let given = [values[0], values[1], values[2], values[3], m.reply];
+    let next = deed_of(table, activities, order, n, given);
     put_raises(out, used, table, activities, next)
 }
 

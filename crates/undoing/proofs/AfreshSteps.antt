@@ -745,7 +745,7 @@ module _ (p : Plan) (actor : Actor) (f : ℕ → ℕ) (t : ℕ) (o : Order) wher
   Its-fresh l = Fresh p f (By l) (o .marks) l
 
   -- the close of a scope is its own
-  plain-scope : (xs : List ℕ) (v : Bool) → (eqb (kind (scope xs v)) 2 || eqb (kind (scope xs v)) 255) ≡ false
+  plain-scope : (xs : List ℕ) (v : Bool) → (eqb (kind (scope xs v)) 2 || (eqb (kind (scope xs v)) 18 || eqb (kind (scope xs v)) 255)) ≡ false
   unfolding kind
   plain-scope [] true = refl
   plain-scope [] false = refl

@@ -17,7 +17,7 @@ use Rattle.undoing.specs.Ties.{orderAfter, pastAfter, isName, LiveTold, 
 use Rattle.undoing.proofs.Settling.{none-twice}
 use Rattle.undoing.specs.Orderly.{Orderly, isChoice, ChoicesTold}
 use Rattle.undoing.specs.Begun.{BegunAll, BegunInTurn}
-use Rattle.undoing.specs.Entirely.{BegunTrulyEver, BegunOnce, BegunAfresh, BegunEntirely, LeftToFinish, AwaitedTold, Chained, StoppedTold, AllGoOn}
+use Rattle.undoing.specs.Entirely.{BegunTrulyEver, BegunOnce, BegunAfresh, BegunEntirely, LeftToFinish, LeftAlone, AwaitedTold, Chained, StoppedTold, AllGoOn}
 use Rattle.undoing.specs.Onward.{KeptRunning, PassedOn, Decided}
 use Rattle.undoing.specs.Standing.{Stands}
 use Rattle.undoing.specs.UndoneRight.{sameBool, eventCode, sameEvents, sameEnds, namesOf, markTold, listTold, broken, UndoneRight}
@@ -37,6 +37,7 @@ use Rattle.undoing.proofs.EntirelyTold.{begun-truly-ever, begun-entirel
 use Rattle.undoing.proofs.OnceOver.{begun-once}
 use Rattle.undoing.proofs.AfreshTold.{begun-afresh}
 use Rattle.undoing.proofs.NearTold.{left-to-finish}
+use Rattle.undoing.proofs.AloneTold.{left-alone}
 use Rattle.undoing.proofs.Moving.{kept-running, passed-on}
 use Rattle.undoing.proofs.Deciding.{decided-told}
 use Rattle.undoing.proofs.Firmly.{awaited-told}
@@ -81,7 +82,7 @@ module _ (p : Plan) (o : Order) (past : List Event) where
 
 -- The one statement.
 pub undone-right : UndoneRight
-unfolding UndoneRight broken Demand3 Orderly FaultsTold StepsTold EndsTold HandledBecause BegunTrulyEver BegunAll BegunInTurn BegunOnce BegunAfresh BegunEntirely LeftToFinish KeptRunning PassedOn Decided AwaitedTold Chained LiveTold MarksTold ChoicesTold ListsTold PlacesTold GoingOn NeverStuck NoneTwice StoppedTold AllGoOn Stands
+unfolding UndoneRight broken Demand3 Orderly FaultsTold StepsTold EndsTold HandledBecause BegunTrulyEver BegunAll BegunInTurn BegunOnce BegunAfresh BegunEntirely LeftToFinish LeftAlone KeptRunning PassedOn Decided AwaitedTold Chained LiveTold MarksTold ChoicesTold ListsTold PlacesTold GoingOn NeverStuck NoneTwice StoppedTold AllGoOn Stands
 undone-right bytes p next e calls slot t =
     rw (
       demanded.demand3 bytes p next e calls slot t,
@@ -97,6 +98,7 @@ undone-right bytes p next e calls slot t =
       begun-afresh bytes p next e calls slot t,
       begun-entirely bytes p next e calls slot t,
       left-to-finish bytes p next e calls slot t,
+      left-alone bytes p next e calls slot t,
       kept-running bytes p next e calls slot t,
       passed-on bytes p next e calls slot t,
       decided-told bytes p next e calls slot t,

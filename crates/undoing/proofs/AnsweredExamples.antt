@@ -15,7 +15,7 @@ use Rattle.undoing.specs.Computing.{judging}
 use Rattle.undoing.specs.Answered.{isSure, hasAll, surely, backIn, backOf, nothingDue, noted, mayNote, settles, inOrder, answered, asOften, eachAsOften}
 
 abbrev pub first : Call
-first = posting (record { partner = 0; operation = 0; count = 1; values = 5 ∷ 0 ∷ 0 ∷ 0 ∷ [] })
+first = posting (record { partner = 0; operation = 0; count = 1; values = 5 ∷ 0 ∷ 0 ∷ 0 ∷ []; reply = 0 })
 
 abbrev pub next : Call
 next = stepping 0

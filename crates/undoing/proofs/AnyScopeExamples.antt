@@ -13,7 +13,9 @@ use Rattle.machine.specs.Calls.{loaded}
 use Rattle.machine.specs.Computing.{computing}
 use Rattle.undoing.specs.Computing.{judging}
 use Rattle.undoing.specs.Answered.{isSure, hasAll, surely, backIn, backOf, nothingDue, noted, mayNote, settles, inOrder, answered, asOften, eachAsOften}
+use Rattle.order.specs.Lists.{every}
 use Rattle.undoing.specs.AnyScope.{noOftener, neverOftener}
+use Rattle.undoing.specs.LatestFirst.{takenFrom, stacked, mayStack, latestFirst, takers}
 use Rattle.undoing.proofs.AnsweredExamples.{first, next, answers, goes, Example, brief}
 
 -- A receive 1; a scope 2, in which two scopes 4 and 8 close (undo parts 7 and 11) and a raise 12 is, with a fault part 13 and an undo part 14.
@@ -122,3 +124,44 @@ passes bytes l = by false (λ p. inOrder p nothingDue l && eachAsOften p [] l) (
 passed : map (λ x. map (passes (x .bytes)) (x .wrongly)) examples ≡ map (λ x. map (λ l. true) (x .wrongly)) examples
 unfolding examples faulting inRounds stopping handing numbered passes isSure hasAll surely backIn backOf noted mayNote settles inOrder asOften eachAsOften computing judging
 passed = refl
+
+-- The latest first: of the same examples, and of a receive 1; a set 2; a scope 3, in which a repeat 5 closes the scopes 7 and 11 twice (undo parts 10 and 14), and a raise 16 is; its fault
+-- part 17.
+unfoldable twice : Example
+twice =
+    record {
+      bytes = 1 ∷ 2 ∷ 0 ∷ 8 ∷ 3 ∷ 2 ∷ 0 ∷ 0 ∷ 1 ∷ 0 ∷ 3 ∷ 1 ∷ 0 ∷ 0 ∷ 11 ∷ 8 ∷ 2 ∷ 7 ∷ 5 ∷ 1 ∷ 1 ∷ 0 ∷ 2 ∷ 8 ∷ 3 ∷ 11 ∷ 0 ∷ 0 ∷ 1 ∷ 2 ∷ 1 ∷ 1 ∷ 0 ∷ 11 ∷ 0 ∷ 0 ∷ 1 ∷ 2 ∷ 2 ∷ 1 ∷ 0 ∷ 3 ∷ 1 ∷ 2 ∷ 1 ∷ 1 ∷ 0 ∷ 1 ∷ 4 ∷ 1 ∷ 2 ∷ 3 ∷ 1 ∷ 0 ∷ 1 ∷ 2 ∷ 4 ∷ 1 ∷ 0 ∷ 0 ∷ [];
+      calls = first ∷ next ∷ next ∷ next ∷ next ∷ next ∷ next ∷ next ∷ next ∷ next ∷ next ∷ next ∷ next ∷ next ∷ next ∷ next ∷ next ∷ next ∷ [];
+      rightly = goes 1 ∷ goes 2 ∷ goes 5 ∷ goes 7 ∷ goes 11 ∷ goes 15 ∷ goes 5 ∷ goes 7 ∷ goes 11 ∷ goes 15 ∷ goes 5 ∷ goes 16 ∷ goes 14 ∷ goes 10 ∷ goes 14 ∷ goes 10 ∷ answers 17 Well ∷ [];
+      wrongly =
+          -- oldest first; both of one, then both of the other; the second round's in the wrong order
+          (goes 1 ∷ goes 2 ∷ goes 5 ∷ goes 7 ∷ goes 11 ∷ goes 15 ∷ goes 5 ∷ goes 7 ∷ goes 11 ∷ goes 15 ∷ goes 5 ∷ goes 16 ∷ goes 10 ∷ goes 14 ∷ goes 10 ∷ goes 14 ∷ answers 17 Well ∷ [])
+          ∷ (goes 1 ∷ goes 2 ∷ goes 5 ∷ goes 7 ∷ goes 11 ∷ goes 15 ∷ goes 5 ∷ goes 7 ∷ goes 11 ∷ goes 15 ∷ goes 5 ∷ goes 16 ∷ goes 14 ∷ goes 14 ∷ goes 10 ∷ goes 10 ∷ answers 17 Well ∷ [])
+          ∷ (goes 1 ∷ goes 2 ∷ goes 5 ∷ goes 7 ∷ goes 11 ∷ goes 15 ∷ goes 5 ∷ goes 7 ∷ goes 11 ∷ goes 15 ∷ goes 5 ∷ goes 16 ∷ goes 14 ∷ goes 10 ∷ goes 10 ∷ goes 14 ∷ answers 17 Well ∷ [])
+          -- one that was passed over, later
+          ∷ (goes 1 ∷ goes 2 ∷ goes 5 ∷ goes 7 ∷ goes 11 ∷ goes 15 ∷ goes 5 ∷ goes 7 ∷ goes 11 ∷ goes 15 ∷ goes 5 ∷ goes 16 ∷ goes 10 ∷ goes 14 ∷ goes 14 ∷ goes 10 ∷ answers 17 Well ∷ [])
+          ∷ [];
+    }
+
+unfoldable disordered : Example
+disordered = record { bytes = faulting .bytes; calls = faulting .calls; rightly = faulting .rightly; wrongly = (goes 1 ∷ goes 4 ∷ goes 8 ∷ goes 12 ∷ goes 7 ∷ goes 11 ∷ answers 13 Well ∷ []) ∷ [] }
+
+given-twice : map (λ x. brief (answered (x .calls) 0 (loaded (x .bytes)) noTally)) (twice ∷ []) ≡ map (λ x. brief (x .rightly)) (twice ∷ [])
+unfolding twice brief answered computing judging
+given-twice = refl
+
+inTurn : List ℕ → List Step → Bool
+inTurn bytes l = by false (λ p. every (λ n. latestFirst p n [] l) (takers p)) (readPlan bytes)
+
+turned : map (λ x. inTurn (x .bytes) (x .rightly)) (twice ∷ disordered ∷ examples) ≡ map (λ x. true) (twice ∷ disordered ∷ examples)
+unfolding twice disordered examples faulting inRounds stopping handing numbered inTurn isSure hasAll surely backIn backOf takenFrom stacked mayStack latestFirst takers computing judging
+turned = refl
+
+out-of-turn : map (λ x. map (inTurn (x .bytes)) (x .wrongly)) (twice ∷ disordered ∷ []) ≡ map (λ x. map (λ l. false) (x .wrongly)) (twice ∷ disordered ∷ [])
+unfolding twice disordered faulting inTurn isSure hasAll surely backIn backOf takenFrom stacked mayStack latestFirst takers computing judging
+out-of-turn = refl
+
+-- by what is said of numbers alone they pass
+often-enough : map (λ x. map (judged (x .bytes)) (x .wrongly)) (twice ∷ disordered ∷ []) ≡ map (λ x. map (λ l. true) (x .wrongly)) (twice ∷ disordered ∷ [])
+unfolding twice disordered faulting judged isSure hasAll surely backIn backOf noOftener neverOftener computing judging
+often-enough = refl

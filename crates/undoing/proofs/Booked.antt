@@ -136,7 +136,7 @@ unfolding duesOf
 none-owed p o e l = quiet-owed p o e ∙ ap (duesIn p) l
 
 -- one of some scopes, by its number
-some-find : {P : Type 0} (f : ℕ → Bool) (l : List Inner) → some (λ x. f (x .number)) l ≡ true → ((e : ℕ) → some (λ x. eqb (x .number) e) l ≡ true → f e ≡ true → P) → P
+pub some-find : {P : Type 0} (f : ℕ → Bool) (l : List Inner) → some (λ x. f (x .number)) l ≡ true → ((e : ℕ) → some (λ x. eqb (x .number) e) l ≡ true → f e ≡ true → P) → P
 unfolding some
 some-find f [] h g = absurd (false≢true h)
 some-find f (x ∷ l) h g =

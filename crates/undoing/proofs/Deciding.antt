@@ -187,7 +187,7 @@ itself-picks (scope xs v) within q₀ k o n h = refl
 itself-picks (arm p op vs) within q₀ k o n h = refl
 
 -- a raise stands in place of what picks nothing
-placed-picks : (own : Own) (within : Acts) (k : ℕ) (o : Order) → (eqb (kind own) 2 || eqb (kind own) 255) ≡ true → picks own within k o ≡ []
+placed-picks : (own : Own) (within : Acts) (k : ℕ) (o : Order) → (eqb (kind own) 2 || (eqb (kind own) 18 || eqb (kind own) 255)) ≡ true → picks own within k o ≡ []
 unfolding kind picks
 placed-picks empty within k o e = refl
 placed-picks (send p op vs) within k o e = refl
@@ -208,10 +208,10 @@ performs-picks : (actor : Actor) (own : Own) (within : Acts) (q₀ k : ℕ) (o :
 unfolding performs replaces every
 performs-picks itsOwn own within q₀ k o n h = itself-picks own within q₀ k o n h
 performs-picks inPlace own within q₀ k o n h =
-    decide (eqb (kind own) 2 || eqb (kind own) 255)
+    decide (eqb (kind own) 2 || (eqb (kind own) 18 || eqb (kind own) 255))
     (λ d. subst (λ (js : List ℕ). Has js (performs inPlace own within q₀ k o .log)) (sym (placed-picks own within k o d)) refl)
     (λ d. subst (λ (r : Outcome). Has (picks own within k o) (r .log))
-    (sym (second-of (eqb (kind own) 2 || eqb (kind own) 255) (raises conflictingReceive k o) (itself own within q₀ k o) (performs inPlace own within q₀ k o) refl d)) (itself-picks own within q₀ k o n h))
+    (sym (second-of (eqb (kind own) 2 || (eqb (kind own) 18 || eqb (kind own) 255)) (raises conflictingReceive k o) (itself own within q₀ k o) (performs inPlace own within q₀ k o) refl d)) (itself-picks own within q₀ k o n h))
 
 -- What is made of it has it too.
 module _ (f : ℕ → ℕ) (actor : Actor) where

@@ -5,7 +5,7 @@ use mathlib.Core.Bool.{Bool, true, false, cond, _&&_, _||_, false≢true}
 use mathlib.Core.List.{List, [], _∷_, _++_, append-nil, append-assoc}
 use lib.Dec.{eqb, ltb}
 use borrow.Author.Tests.{eqb-true}
-use Rattle.plan.specs.Tree.{Exp, constant, variable, binary, Own, empty, send, receive, set as setting, raise, leave, choose, repeat, sequence, flow, pick, scope, arm, kind, isPick, Act, act, Acts, none, more, Plan, size, sizes, isScope, undoPart}
+use Rattle.plan.specs.Tree.{Exp, constant, variable, binary, Own, empty, send, receive, set as setting, raise, leave, choose, repeat, sequence, flow, pick, scope, arm, kind, isPick, Act, act, Acts, none, more, Plan, size, sizes, isScope, undoPart, fromPartner, fromAsking, toPartner, toHeld, heldBy}
 use Rattle.order.specs.declared.Order.{Order}
 use Rattle.order.specs.declared.End.{End}
 use Rattle.order.specs.declared.End.the-variants.{None, Well, Handled, Failed, Left}
@@ -18,7 +18,7 @@ use Rattle.order.specs.Begin.{Begun, beginAfter, beginPart, partAt, quiet, clea
 use Rattle.order.specs.declared.Way.{Way as Result}
 use Rattle.order.specs.declared.Way.the-variants.{Running as running, Over as over, Raising as raising, Leaving as leaving, Undone as undone, UndoRaising as undoRaising}
 use Rattle.order.specs.Scope.{Outcome, runs, begunIn, whereOver, Scope, scopeAt, rootOf, isOpen, closing, ends, undoes, turns, stop, faults, breaks, looksAgain, bodyOver, bodyRaised, undoOver, undoRaised, fromBody, partOver, partRaised, fromFault, fromUndo, goesThrough, choiceFor}
-use Rattle.order.specs.Acting.{finishes, orRaises, enters, again, repeats, allBound, itself, isPart, arms, goesOn, joins, inScope, combines, stepIn, stepAmong, stepRoot, endOf, movedTo, begunOrder, itsOwn, inPlace, replaces, performs, Moved, acted}
+use Rattle.order.specs.Acting.{finishes, orRaises, enters, again, repeats, allBound, itself, isPart, arms, goesOn, joins, inScope, combines, stepIn, stepAmong, stepRoot, endOf, movedTo, begunOrder, itsOwn, inPlace, replaces, performs, Moved, acted, reaches}
 use Rattle.order.specs.Judging.{Verdict, clear, clash, conflict, following, upon, judged, spare, settled, stepOrder}
 use Rattle.undoing.proofs.Judged.{isTake, OnClash, Higher, conflict-awaited}
 use Rattle.machine.specs.Fit.{Doing, doingOf}
@@ -190,7 +190,7 @@ or-raises k o g (value n) h = h n
 itself-deeds : (own : Own) (within : Acts) (q k : ℕ) (o : Order) → only isDeed (itself own within q k o .log) ≡ deedOf own k o
 unfolding itself closing deedOf only isDeed
 itself-deeds empty within q k o = refl
-itself-deeds (send p op vs) within q k o = decide (allBound o vs) (λ e. rw e) (λ e. rw e)
+itself-deeds (send p op vs) within q k o = decide (allBound o (heldBy p ++ vs)) (λ e. decide (reaches o p) (λ f. rw (e, f)) (λ f. rw (e, f))) (λ e. rw e)
 itself-deeds (receive p op vs) within q k o = refl
 itself-deeds (setting v e) within q k o = or-raises k o (λ n. finishes k (binding v n o)) (evaluate e o) (λ n. refl)
 itself-deeds (raise zero) within q k o = refl
@@ -218,7 +218,8 @@ evaluate-marked (binary op l r) k m o = rw (evaluate-marked l k m o, evaluate-ma
 deed-marked : (own : Own) (j k m : ℕ) (o : Order) → deedOf own j (marked k m o) ≡ deedOf own j o
 unfolding deedOf
 deed-marked empty j k m o = refl
-deed-marked (send p op vs) j k m o = refl
+deed-marked (send (toPartner p) op vs) j k m o = refl
+deed-marked (send (toHeld held reply) op vs) j k m o = refl
 deed-marked (receive p op vs) j k m o = refl
 deed-marked (setting v e) j k m o = rw (evaluate-marked e k m o)
 deed-marked (raise zero) j k m o = refl
@@ -317,7 +318,8 @@ raise-deed : (own : Own) (within : Acts) (q k : ℕ) (o : Order) → isTake (doi
 unfolding isTake doingOf performs replaces kind only isDeed
 raise-deed empty within q k o h = absurd (false≢true h)
 raise-deed (send x y vs) within q k o h = absurd (false≢true h)
-raise-deed (receive x y vs) within q k o h = refl
+raise-deed (receive (fromPartner x) y vs) within q k o h = refl
+raise-deed (receive (fromAsking x kept) y vs) within q k o h = refl
 raise-deed (setting v x) within q k o h = absurd (false≢true h)
 raise-deed (raise zero) within q k o h = absurd (false≢true h)
 raise-deed (raise (suc number)) within q k o h = absurd (false≢true h)

@@ -1,30 +1,29 @@
 -- A fault that comes out of a step has set no mark: each that is set then is what it was; and a fault or a leave that comes out of one is told. Assumes nothing.
-use Prim.Native.Nat.{ℕ, zero, suc, _+_, _≤_, _<_}
-use native.Mathlib.Omega.{arith}
+use Prim.Native.Nat.{ℕ, zero, suc, _+_}
 use mathlib.Core.Path.{_≡_, refl, sym, subst, _∙_}
 use mathlib.Core.Bool.{Bool, true, false, cond, _&&_, _||_, false≢true}
 use mathlib.Core.List.{List, [], _∷_, _++_}
 use lib.ListN.{getD, set}
 use lib.Dec.{eqb, ltb}
 use borrow.Author.Tests.{eqb-true, eqb-false}
-use Rattle.plan.specs.Tree.{Own, empty, send, receive, set as setting, raise, leave, choose, repeat, sequence, flow, pick, scope, arm, kind, isScope, isPick, Act, act, Acts, none, more, Plan, size, sizes, undoPart}
+use Rattle.plan.specs.Tree.{Own, empty, send, receive, set as setting, raise, leave, choose, repeat, sequence, flow, pick, scope, arm, kind, isScope, isPick, Act, Acts, none, more, Plan, size, undoPart}
 use Rattle.order.specs.declared.Order.{Order}
 use Rattle.order.specs.State.{Name, root, inner, idle, active, inside, faulty, undoing, handling, withdrawing, marked, markAt, markOf, marking, binding, causing, stateOf, markWith}
 use Rattle.order.specs.Event.{Event}
 use Rattle.order.specs.Lists.{some}
-use Rattle.order.specs.Expression.{unboundVariable, conflictingReceive, Value, fault, value, evaluate, isTrue}
-use Rattle.order.specs.Begin.{part, partAt, beginPart, beginAfter}
+use Rattle.order.specs.Expression.{conflictingReceive, Value, fault, value, evaluate, isTrue}
+use Rattle.order.specs.Begin.{partAt, beginPart, beginAfter}
 use Rattle.order.specs.declared.Way.{Way as Result}
 use Rattle.order.specs.declared.Way.the-variants.{Running as running, Over as over, Raising as raising, Leaving as leaving, Undone as undone, UndoRaising as undoRaising}
-use Rattle.order.specs.Scope.{Outcome, runs, begunIn, whereOver, Scope, scopeAt, rootOf, isOpen, forgetting, closing, turns, stop, faults, breaks, looksAgain, bodyOver, bodyRaised, undoOver, undoRaised, fromBody, partOver, partRaised, fromFault, goesThrough, fromUndo, choiceFor}
-use Rattle.order.specs.Acting.{finishes, raises, leaves, orRaises, enters, again, repeats, allBound, itself, isPart, arms, goesOn, joins, inScope, combines, stepIn, stepAmong, stepRoot, Actor, replaces, performs}
+use Rattle.order.specs.Scope.{Outcome, runs, begunIn, whereOver, Scope, scopeAt, rootOf, isOpen, forgetting, closing, stop, faults, breaks, looksAgain, bodyOver, bodyRaised, undoOver, undoRaised, fromBody, partOver, partRaised, fromFault, goesThrough, fromUndo, choiceFor}
+use Rattle.order.specs.Acting.{finishes, raises, leaves, orRaises, again, repeats, itself, isPart, arms, goesOn, joins, inScope, combines, stepIn, stepAmong, stepRoot, Actor, replaces, performs}
 use Rattle.undoing.specs.Entirely.{isRash}
-use Rattle.undoing.proofs.Parts.{both, decide, some-append}
-use Rattle.undoing.proofs.Places.{first-of, second-of}
+use Rattle.undoing.proofs.Parts.{decide, some-append}
 use Rattle.undoing.proofs.Aside.{part-silent}
-use Rattle.undoing.proofs.Shapes.{graves-aside, isGrave, isMild, Mild, mild-either, mild-where, mild-begun, mild-runs, mild-turns, mild-looks, mild-over, mild-undo-over, mild-part-over, mild-finishes, mild-again, mild-joins, mild-enters, mild-repeats, mild-follows}
-use Rattle.undoing.proofs.Truly.{or-case, Stay, stay-still, stay-then, stay-other, stay-idle, stay-cleared, Arms, Knows, knows, KnowsIn, knows-none, knows-more}
+use Rattle.undoing.proofs.Shapes.{graves-aside, isGrave, isMild, Mild, mild-either, mild-begun, mild-runs, mild-turns, mild-looks, mild-over, mild-undo-over, mild-part-over, mild-finishes, mild-again, mild-joins, mild-enters, mild-repeats, mild-follows}
+use Rattle.undoing.proofs.Truly.{Stay, stay-still, stay-then, stay-other, stay-idle, stay-cleared, Knows, knows, KnowsIn, knows-none, knows-more}
 use Rattle.undoing.proofs.Lasting.{isRaising}
+use Rattle.undoing.proofs.Sends.{by-send}
 
 -- a fault came out, or the order leaves
 abbrev pub isBad : Result → Bool
@@ -93,7 +92,7 @@ or-drops k o g (value n) h = mild-drops o (g n) (h n .goes)
 itself-drops : (own : Own) (within : Acts) (q k : ℕ) (o : Order) → Drops o (itself own within q k o)
 unfolding itself closing some isRash
 itself-drops empty within q k o = mild-drops o (runs o) refl
-itself-drops (send a b vs) within q k o = decide (allBound o vs) (λ e. rw e (mild-drops o (finishes k o) refl)) (λ e. rw e (raises-drops unboundVariable k o))
+itself-drops (send a b vs) within q k o = by-send (Drops o) a b vs within q k o (mild-drops o (finishes k o) refl) (λ x. raises-drops x k o)
 itself-drops (receive a b vs) within q k o = mild-drops o (finishes k o) refl
 itself-drops (setting v e) within q k o = or-drops k o _ (evaluate e o) (λ n. mild-finishes k (binding v n o))
 itself-drops (raise number) within q k o = raises-drops number k o

@@ -15,11 +15,11 @@ use Rattle.order.specs.declared.End.the-variants.{None, Well, Handled, Failed, 
 use Rattle.machine.specs.declared.State.{State}
 use Rattle.machine.specs.declared.Tally.{Tally}
 use Rattle.order.specs.Lists.{some, only}
-use Rattle.order.specs.Expression.{unboundVariable, Value, fault, value, evaluate}
+use Rattle.order.specs.Expression.{Value, fault, value, evaluate}
 use Rattle.order.specs.State.{root, inner}
 use Rattle.machine.specs.State.{fresh}
 use Rattle.order.specs.Event.{Event, started, began, closed, faulted, stopped, ended, raised, left}
-use Rattle.order.specs.Acting.{allBound, begunOrder, startedOrder, Actor, itsOwn, inPlace, Moved, acted}
+use Rattle.order.specs.Acting.{begunOrder, startedOrder, Actor, itsOwn, inPlace, Moved, acted}
 use Rattle.order.specs.Judging.{following, stepOrder}
 use Rattle.undoing.proofs.Judged.{Fitting, passed-once}
 use Rattle.machine.specs.Calls.{loadedAs, load, post, collect, dropAt, Stepped, doingAt, step, Call, posting, collecting, dropping, stepping}
@@ -40,6 +40,7 @@ use Rattle.undoing.proofs.Deeds.{acted-deeds, raised-deeds, start-deed}
 use Rattle.undoing.proofs.Shapes.{isGrave, Calm, Shape, shape-calm, shape-fault, shape-end-fault, shape-end, shape-lost, OrderShape, shaped, out, order-shape, start-calm}
 use Rattle.undoing.proofs.Fitting.{standing-fits}
 use Rattle.undoing.proofs.Heeding.{leftBy, Clear, clear-raised, heeds-append, heeds-clears, heeds-once, step-heeds, calm-heeds}
+use Rattle.undoing.proofs.Sends.{by-sent}
 
 -- Starts.
 
@@ -68,11 +69,6 @@ start-kept (raised k x ∷ l) = start-kept l
 start-kept (left ∷ l) = start-kept l
 
 -- the step of no activity is a start
-if-starts : (k x : ℕ) (b : Bool) → some isStart (raisedIf k x b) ≡ false
-unfolding some isStart
-if-starts k x true = refl
-if-starts k x false = refl
-
 by-starts : (k : ℕ) (v : Value) → some isStart (raisedBy k v) ≡ false
 unfolding some isStart
 by-starts k (fault x) = refl
@@ -81,7 +77,7 @@ by-starts k (value n) = refl
 deed-starts : (own : Own) (k : ℕ) (o : Order) → some isStart (deedOf own k o) ≡ false
 unfolding deedOf some isStart
 deed-starts empty k o = refl
-deed-starts (send x y vs) k o = if-starts k unboundVariable (not (allBound o vs))
+deed-starts (send x y vs) k o = by-sent (λ l. some isStart l ≡ false) x y vs k o refl (λ n. refl)
 deed-starts (receive x y vs) k o = refl
 deed-starts (setting v e) k o = by-starts k (evaluate e o)
 deed-starts (raise zero) k o = refl

@@ -5,28 +5,29 @@ use mathlib.Core.Path.{_≡_, refl, sym, ap, subst, _∙_}
 use mathlib.Core.Bool.{Bool, true, false, cond, _&&_, _||_, false≢true}
 use mathlib.Core.List.{List, [], _∷_, _++_}
 use lib.Dec.{eqb, ltb, leb}
-use borrow.Author.Tests.{eqb-true, eqb-false, ltb-true, ltb-false, lt-ltb, le-leb}
+use borrow.Author.Tests.{eqb-false, ltb-false, le-leb}
 use Rattle.plan.specs.Tree.{Own, empty, send, receive, set as setting, raise, leave, choose, repeat, sequence, flow, pick, scope, arm, kind, Act, act, Acts, none, more, Plan, size, sizes, count, isScope, hasUndo, isPick, numbersOf, undoPart, generalPart}
 use Rattle.order.specs.declared.Order.{Order}
 use Rattle.order.specs.State.{idle, active, inside, faulty, undoing, handling, halted, withdrawing, done, withMarks, markAt, marked, markOf, marking, binding, causing, stateOf, going, markWith, choiceOf}
-use Rattle.order.specs.Event.{Event, began, closed, faulted, stopped, raised, left, ended}
-use Rattle.order.specs.Expression.{unboundVariable, conflictingReceive, Value, fault, value, evaluate, isTrue}
-use Rattle.order.specs.Begin.{Begun, nothingBegun, begin, beginInTurn, beginAfter, part, partAt, beginPart, cleared, quiet}
+use Rattle.order.specs.Event.{Event, faulted, stopped}
+use Rattle.order.specs.Expression.{conflictingReceive, Value, fault, value, evaluate, isTrue}
+use Rattle.order.specs.Begin.{Begun, nothingBegun, begin, beginAfter, part, partAt, beginPart, cleared, quiet}
 use Rattle.order.specs.declared.Way.{Way as Result}
 use Rattle.order.specs.declared.Way.the-variants.{Running as running, Over as over, Raising as raising, Leaving as leaving, Undone as undone, UndoRaising as undoRaising}
-use Rattle.order.specs.Scope.{Outcome, rootOf, runs, after, begunIn, whereOver, Scope, scopeAt, isOpen, innerRuns, closing, beginUndo, beginUndoFirst, beginUndoIn, startUndo, undo, ends, handle, undoes, turns, rememberedFor, untouched, withdraws, stop, stopAll, stopFirst, alsoStopped, faults, breaks, looksAgain, bodyOver, bodyRaised, undoOver, undoRaised, fromBody, partOver, partRaised, fromFault, fromUndo, goesThrough, choiceFor, chosenPart, chosenAt}
+use Rattle.order.specs.Scope.{Outcome, rootOf, runs, after, begunIn, whereOver, Scope, scopeAt, isOpen, innerRuns, closing, beginUndo, beginUndoFirst, beginUndoIn, startUndo, undo, ends, handle, undoes, turns, rememberedFor, untouched, withdraws, stop, stopAll, stopFirst, faults, breaks, looksAgain, bodyOver, bodyRaised, undoOver, undoRaised, fromBody, partOver, partRaised, fromFault, fromUndo, goesThrough, choiceFor, chosenPart, chosenAt}
 use Rattle.order.specs.Scope as definitions
-use Rattle.order.specs.Acting.{finishes, raises, orRaises, enters, again, repeats, allBound, itself, arms, goesOn, joins, inScope, combines, stepIn, stepAmong, stepRoot, Actor, replaces, performs}
+use Rattle.order.specs.Acting.{finishes, raises, orRaises, again, repeats, itself, arms, goesOn, joins, inScope, combines, stepIn, stepAmong, stepRoot, Actor, replaces, performs}
 use Rattle.undoing.specs.Orderly.{isBeganOf}
 use Rattle.undoing.specs.Begun.{lasts}
 use Rattle.undoing.specs.Entirely.{times}
-use Rattle.undoing.proofs.Parts.{both, decide}
+use Rattle.undoing.proofs.Parts.{decide}
 use Rattle.undoing.proofs.Choices.{chosen-each, root-chosen, general-there, undo-there}
 use Rattle.undoing.proofs.Orders.{least}
 use Rattle.undoing.proofs.Places.{first-of, second-of}
 use Rattle.undoing.proofs.Planning.{scope-own}
 use Rattle.undoing.proofs.Truly.{Arms, needs, Knows, knows, KnowsIn, knows-none, knows-more}
-use Rattle.undoing.proofs.Entire.{scope-not, Two, times-append, times-event, Zero, Like, zero-part, Even, Row, Rows, First, Node, Holds, HoldsIn, no, even-zero, even-rows, even-even, even-first, holds-zero, holds-in-zero, rows-same, first-same, even-same, holds-same, holds-in-same, rows-append, first-append, holds-append, holds-in-append, Starts, Ranks, none-ranks, rows-row, Named, begin-starts, turn-starts}
+use Rattle.undoing.proofs.Entire.{scope-not, times-append, times-event, Zero, Even, Row, Rows, First, Holds, HoldsIn, no, even-zero, even-rows, even-even, even-first, holds-zero, holds-in-zero, first-same, holds-same, holds-in-same, rows-append, first-append, holds-in-append, Starts, Ranks, none-ranks, rows-row, Named, begin-starts, turn-starts}
+use Rattle.undoing.proofs.Sends.{by-send}
 
 abbrev pub isLeaving : Result → Bool
 isLeaving running = false
@@ -566,7 +567,7 @@ module _ (f : ℕ → ℕ) where
     unfolding itself needs least kind times isBeganOf closing repeats
     itself-at empty within q₀ k o n r y = silent (act empty within) k (runs o) (λ j. refl)
     itself-at (send a b vs) within q₀ k o n r y =
-        decide (allBound o vs) (λ e. rw e (silent (act (send a b vs) within) k (finishes k o) (λ j. refl))) (λ e. rw e (silent (act (send a b vs) within) k (raises unboundVariable k o) (λ j. refl)))
+        by-send (StepsAt (allow t) (act (send a b vs) within) k) a b vs within q₀ k o (silent (act (send a b vs) within) k (finishes k o) (λ j. refl)) (λ x. silent (act (send a b vs) within) k (raises x k o) (λ j. refl))
     itself-at (receive a b vs) within q₀ k o n r y = silent (act (receive a b vs) within) k (finishes k o) (λ j. refl)
     itself-at (setting v e) within q₀ k o n r y = or-at (act (setting v e) within) k o _ (evaluate e o) (λ i. silent (act (setting v e) within) k (finishes k (binding v i o)) (λ j. refl))
     itself-at (raise zero) within q₀ k o n r y = silent (act (raise zero) within) k (raises 0 k o) (λ j. refl)

@@ -1,19 +1,18 @@
 -- What begins in a log begins with all that belongs to it: laws of how often, by the tree, and what begins with an activity. Assumes nothing.
 use Prim.Native.Nat.{ℕ, zero, suc, _+_, _≤_, _<_}
 use native.Mathlib.Omega.{arith}
-use mathlib.Core.Path.{_≡_, refl, sym, ap, subst, _∙_}
-use mathlib.Core.Bool.{Bool, true, false, cond, _&&_, false≢true}
+use mathlib.Core.Path.{_≡_, refl, sym, subst, _∙_}
+use mathlib.Core.Bool.{Bool, true, false, false≢true}
 use mathlib.Core.List.{List, [], _∷_, _++_}
 use lib.ListN.{set}
-use lib.Dec.{eqb, ltb, leb}
-use borrow.Author.Tests.{eqb-true, eqb-false, eq-eqb, ne-eqb, ltb-true, ltb-false, lt-ltb, le-leb}
-use Rattle.plan.specs.Tree.{Own, empty, send, receive, set as setting, raise, leave, choose, repeat, sequence, flow, pick, scope, arm, kind, Act, act, Acts, none, more, size, sizes, count, isScope, isArm, isPick}
+use lib.Dec.{eqb}
+use borrow.Author.Tests.{eq-eqb, ne-eqb}
+use Rattle.plan.specs.Tree.{Own, empty, send, receive, set as setting, raise, leave, choose, repeat, sequence, flow, pick, scope, arm, kind, Act, act, Acts, none, more, size, sizes, isScope, isArm, isPick, toPartner, toHeld, fromPartner, fromAsking}
 use Rattle.order.specs.State.{active}
 use Rattle.order.specs.Event.{Event, began}
-use Rattle.order.specs.Begin.{Begun, throughout, around, itsBeginning, inTurn, begin, beginInTurn, beginAll, beginFirst, beginAfter, part, partAt, beginPart}
+use Rattle.order.specs.Begin.{Begun, throughout, around, inTurn, begin, beginInTurn, beginAll, beginFirst}
 use Rattle.undoing.specs.Orderly.{isBeganOf}
 use Rattle.undoing.specs.Entirely.{times}
-use Rattle.undoing.proofs.Parts.{decide}
 use Rattle.undoing.proofs.Truly.{Arms, Knows, knows, KnowsIn, knows-none, knows-more}
 
 -- two things
@@ -349,8 +348,10 @@ module _ (f : ℕ → ℕ) where
       → Starts (act own within) k (begin (act own within) k ms .log)
   unfolding begin kind
   own-starts empty within k i ms t a b = leaf-starts empty within k refl refl refl
-  own-starts (send p o vs) within k i ms t a b = leaf-starts (send p o vs) within k refl refl refl
-  own-starts (receive p o vs) within k i ms t a b = leaf-starts (receive p o vs) within k refl refl refl
+  own-starts (send (toPartner p) o vs) within k i ms t a b = leaf-starts (send (toPartner p) o vs) within k refl refl refl
+  own-starts (send (toHeld held reply) o vs) within k i ms t a b = leaf-starts (send (toHeld held reply) o vs) within k refl refl refl
+  own-starts (receive (fromPartner p) o vs) within k i ms t a b = leaf-starts (receive (fromPartner p) o vs) within k refl refl refl
+  own-starts (receive (fromAsking p kept) o vs) within k i ms t a b = leaf-starts (receive (fromAsking p kept) o vs) within k refl refl refl
   own-starts (setting v e) within k i ms t a b = leaf-starts (setting v e) within k refl refl refl
   own-starts (raise zero) within k i ms t a b = leaf-starts (raise zero) within k refl refl refl
   own-starts (raise (suc number)) within k i ms t a b = leaf-starts (raise (suc number)) within k refl refl refl

@@ -2,36 +2,36 @@
 use Prim.Native.Nat.{ℕ, zero, suc, _+_, _≤_, _<_}
 use native.Mathlib.Omega.{arith}
 use mathlib.Core.Path.{_≡_, refl, sym, ap, subst, _∙_}
-use mathlib.Core.Bool.{Bool, true, false, cond, _&&_, _||_, false≢true, or-true}
+use mathlib.Core.Bool.{Bool, true, false, cond, _&&_, _||_, false≢true}
 use mathlib.Core.List.{List, [], _∷_, _++_}
 use lib.ListN.{getD, set}
 use lib.Seq.{getD-set-other}
 use lib.Dec.{eqb, ltb}
-use borrow.Author.Tests.{eqb-true, eqb-false, eq-eqb, ne-eqb, lt-ltb, le-ltb, ltb-true, ltb-false}
-use Rattle.plan.specs.Tree.{Exp, Own, empty, send, receive, set as setting, raise, leave, choose, repeat, sequence, flow, pick, scope, arm, kind, isScope, isArm, isPick, Act, act, Acts, none, more, Plan, size, sizes, undoPart}
+use borrow.Author.Tests.{eqb-true, eq-eqb, ne-eqb, lt-ltb, le-ltb}
+use Rattle.plan.specs.Tree.{Own, empty, send, receive, set as setting, raise, leave, choose, repeat, sequence, flow, pick, scope, arm, kind, isScope, isArm, isPick, Act, act, Acts, none, more, size, sizes, undoPart, fromPartner, fromAsking}
 use Rattle.order.specs.declared.Order.{Order}
 use Rattle.order.specs.declared.Way.{Way as Result}
 use Rattle.order.specs.declared.Way.the-variants.{Running as running, Over as over, Raising as raising, Leaving as leaving, Undone as undone, UndoRaising as undoRaising}
-use Rattle.order.specs.State.{idle, active, inside, done, faulty, undoing, handling, halted, withdrawing, Name, root, inner, withMarks, marked, markAt, markOf, marking, closings, remembering, causing, stateOf, choiceOf, going, markWith}
+use Rattle.order.specs.State.{idle, active, inside, faulty, undoing, handling, halted, withdrawing, root, inner, withMarks, marked, markAt, markOf, marking, closings, remembering, causing, stateOf, choiceOf, going, markWith}
 use Rattle.order.specs.Lists.{withoutLast}
 use Rattle.order.specs.Expression.{conflictingReceive}
 use Rattle.order.specs.Event.{Event}
 use Rattle.order.specs.Begin.{Begun, begin, beginAfter, part, partAt, quiet, cleared}
-use Rattle.order.specs.Scope.{Outcome, runs, after, begunIn, whereOver, Scope, scopeAt, rootOf, isFor, isOpen, innerRuns, rememberedFor, beginUndo, startUndo, undo, stop, ends, handle, undoes, turns, faults, breaks, looksAgain, bodyOver, bodyRaised, undoRaised, fromBody, partRaised, fromFault, fromUndo, goesThrough, choiceFor, chosenPart, chosenAt}
+use Rattle.order.specs.Scope.{Outcome, runs, after, begunIn, whereOver, Scope, scopeAt, isFor, isOpen, innerRuns, rememberedFor, beginUndo, startUndo, undo, stop, ends, handle, undoes, turns, faults, breaks, looksAgain, bodyOver, bodyRaised, undoRaised, fromBody, partRaised, fromFault, fromUndo, goesThrough, choiceFor, chosenPart, chosenAt}
 use Rattle.order.specs.Acting.{finishes, raises, again, isPart, arms, goesOn, joins, inScope, combines, inPlace, replaces, performs, stepIn, stepAmong}
 use Rattle.order.specs.Awaited.{Doing, doingOf, awaits}
 use Rattle.order.specs.Judging.{rank}
 use Rattle.machine.specs.Calls.{doingIn, doingAmong}
 use Rattle.undoing.proofs.Parts.{both, decide}
 use Rattle.undoing.proofs.Places.{first-of, second-of}
-use Rattle.undoing.proofs.Planning.{Formed, formed-part, formed-scope, FormedIn, formed-none, formed-more}
+use Rattle.undoing.proofs.Planning.{Formed, formed-part, formed-scope, FormedIn, formed-more}
 use Rattle.undoing.proofs.Waiting.{opens, Waits, waits-itself, waits-within, WaitsIn, waits-first, waits-later}
-use Rattle.undoing.proofs.Truly.{Arms, Knows, knows, KnowsIn, knows-none, knows-more}
+use Rattle.undoing.proofs.Truly.{Arms, Knows, knows, KnowsIn, knows-more}
 use Rattle.undoing.proofs.Marks.{trio}
 use Rattle.undoing.proofs.Keeping.{pick-kind, part-from, arm-open}
 use Rattle.undoing.proofs.Stepping.{in-parts}
 use Rattle.undoing.proofs.Judged.{isTake, doing-here, doing-within, doing-among, doing-later}
-use Rattle.undoing.proofs.Lower.{Same, same-itself, same-then, same-less, same-set, endWith, same-after, same-cleared, rank-set, rank-by, Low, low-itself, low-then, low-less, Owns, own-at, own-root, Under, Lowered, stays, lowers, again-lowered, over-lowered, breaks-lowered, raised-lowered}
+use Rattle.undoing.proofs.Lower.{Same, same-then, same-less, same-set, endWith, same-after, same-cleared, rank-set, rank-by, Low, low-itself, Owns, own-at, Lowered, stays, lowers, again-lowered, over-lowered, breaks-lowered, raised-lowered}
 
 -- the first mark that changes falls, from b on and before e
 pub record Falls (f : ℕ → ℕ) (b e : ℕ) (ms ns : List ℕ) : Type 0 where
@@ -379,7 +379,8 @@ pub raised-receive : (own : Own) (within : Acts) (q k : ℕ) (o : Order) → isT
 unfolding isTake doingOf performs replaces kind
 raised-receive empty within q k o h = absurd (false≢true h)
 raised-receive (send x y vs) within q k o h = absurd (false≢true h)
-raised-receive (receive x y vs) within q k o h = refl
+raised-receive (receive (fromPartner x) y vs) within q k o h = refl
+raised-receive (receive (fromAsking x kept) y vs) within q k o h = refl
 raised-receive (setting v x) within q k o h = absurd (false≢true h)
 raised-receive (raise zero) within q k o h = absurd (false≢true h)
 raised-receive (raise (suc number)) within q k o h = absurd (false≢true h)

@@ -58,7 +58,7 @@ backs a k e = record { has = hasBack a k e; tree = backPart a k e; at = backAt a
 abbrev pub backsIn : Acts → (c e : ℕ) → Back
 backsIn l c e = record { has = hasBackIn l c e; tree = backPartIn l c e; at = backAtIn l c e; sure = backAmong l c e }
 
-abbrev oneOf : Bool → Back → Back → Back
+abbrev pub oneOf : Bool → Back → Back → Back
 oneOf b x y =
     record {
       has = elim b [ true ↦ x .has | false ↦ y .has ];
@@ -67,7 +67,7 @@ oneOf b x y =
       sure = elim b [ true ↦ x .sure | false ↦ y .sure ];
     }
 
-abbrev itsBack : Own → (within : Acts) → (k : ℕ) → Back
+abbrev pub itsBack : Own → (within : Acts) → (k : ℕ) → Back
 itsBack own within k =
     record {
       has = hasUndo own;
@@ -76,7 +76,7 @@ itsBack own within k =
       sure = surely (part (undoPart (numbersOf own)) within) (partAt (undoPart (numbersOf own)) within (k + 1));
     }
 
-backs-is : (own : Own) (within : Acts) (k e : ℕ) (b : Bool) → (isScope own && eqb k e) ≡ b → backs (act own within) k e ≡ oneOf b (itsBack own within k) (backsIn within (k + 1) e)
+pub backs-is : (own : Own) (within : Acts) (k e : ℕ) (b : Bool) → (isScope own && eqb k e) ≡ b → backs (act own within) k e ≡ oneOf b (itsBack own within k) (backsIn within (k + 1) e)
 unfolding hasBack backPart backAt backIn
 backs-is own within k e b t = subst (λ (z : Bool). backs (act own within) k e ≡ oneOf z (itsBack own within k) (backsIn within (k + 1) e)) t refl
 
@@ -179,7 +179,7 @@ pub data Shape (ms : List ℕ) (a : Act) (k : ℕ) : Type 0 where
   shape-undoing : Undoing ms a k → Shape ms a k
   shape-quiet : Quiet ms k (size a) → Shape ms a k
 
-data Shapes (ms : List ℕ) : Acts → ℕ → Type 0 where
+pub data Shapes (ms : List ℕ) : Acts → ℕ → Type 0 where
   shapes-none : {c : ℕ} → Shapes ms none c
   shapes-more : {a : Act} {l : Acts} {c : ℕ} → Shape ms a c → Shapes ms l (c + size a) → Shapes ms (more a l) c
 
@@ -202,7 +202,7 @@ undoing-shapes (undoing-here {a} {l} {c} r q) = shapes-more (shape-undoing r) (q
 undoing-shapes (undoing-later q r) = shapes-more (shape-quiet q) (undoing-shapes r)
 
 -- what stands in an activity other than a scope
-within-shapes : {ms : List ℕ} {own : Own} {within : Acts} {k : ℕ} → isScope own ≡ false → Shape ms (act own within) k → Shapes ms within (k + 1)
+pub within-shapes : {ms : List ℕ} {own : Own} {within : Acts} {k : ℕ} → isScope own ≡ false → Shape ms (act own within) k → Shapes ms within (k + 1)
 unfolding size kind
 within-shapes {within = within} {k} s (shape-run (run-awaits _ _ _ q)) = quiet-shapes within (k + 1) q
 within-shapes s (shape-run (run-one _ _ r)) = all-shapes (one-each r)
@@ -224,7 +224,7 @@ turned-shape (turned-waits _ r _ _) = shape-stopped r
 turned-shape (turned-undoes _ r _) = shape-undoing r
 turned-shape (turned-heals _ q _) = shape-quiet q
 
-body-shape : {ms xs : List ℕ} {v : Bool} {b f : Act} {u : Acts} {k : ℕ} → Shape ms (act (scope xs v) (trio b f u)) k → Shape ms b (k + 1)
+pub body-shape : {ms xs : List ℕ} {v : Bool} {b f : Act} {u : Acts} {k : ℕ} → Shape ms (act (scope xs v) (trio b f u)) k → Shape ms b (k + 1)
 unfolding size
 body-shape (shape-run (run-awaits s _ _ _)) = absurd (not-scope s)
 body-shape (shape-run (run-one s _ _)) = absurd (not-scope s)

@@ -1,7 +1,7 @@
 -- How an activity other than a scope goes on: where its step lets it, and where what ran in it is over. Assumes nothing.
 use Prim.Native.Nat.{ℕ, zero, suc, _+_, _≤_, _<_}
 use native.Mathlib.Omega.{arith}
-use mathlib.Core.Path.{_≡_, refl, sym, ap, subst, _∙_}
+use mathlib.Core.Path.{_≡_, refl, sym, subst, _∙_}
 use mathlib.Core.Bool.{Bool, true, false, cond, false≢true}
 use mathlib.Core.List.{List, [], _++_}
 use lib.ListN.{length, getD, set, length-set}
@@ -13,21 +13,21 @@ use Rattle.order.specs.declared.Order.{Order}
 use Rattle.order.specs.declared.End.the-variants.{None}
 use Rattle.order.specs.State.{root, inner, idle, active, inside, withMarks, marked, binding}
 use Rattle.order.specs.Event.{Event}
-use Rattle.order.specs.Expression.{unboundVariable, Value, fault, value, evaluate, isTrue}
+use Rattle.order.specs.Expression.{Value, fault, value, evaluate, isTrue}
 use Rattle.order.specs.Begin.{Begun, begin, beginInTurn, beginAfter, part, partAt, beginPart, cleared, quiet}
 use Rattle.order.specs.declared.Way.{Way as Result}
 use Rattle.order.specs.declared.Way.the-variants.{Running as running, Over as over, Raising as raising, Leaving as leaving, Undone as undone, UndoRaising as undoRaising}
 use Rattle.order.specs.Scope.{Outcome, runs, after, begunIn, whereOver}
-use Rattle.order.specs.Acting.{finishes, raises, leaves, orRaises, enters, again, repeats, allBound, itself}
+use Rattle.order.specs.Acting.{finishes, raises, leaves, orRaises, enters, again, repeats, itself}
 use Rattle.undoing.specs.Ties.{isName, Place, endTold}
 use Rattle.undoing.proofs.Parts.{decide}
-use Rattle.undoing.proofs.Accounts.{phase}
 use Rattle.undoing.proofs.Moves.{Everywhere, unchanged, Fore, Spot, move-raise, order-left}
 use Rattle.undoing.proofs.Marks.{isDoer, Quiet, Kept, holding, Run, run-awaits, run-one, One, one-here, one-later, able-part, quiet-part, quiet-agree, quiet-join, agree-below, agree-above, kept-wider, kept-then, kept-itself, kept-set, quiet-stoppable}
 use Rattle.undoing.proofs.Orders.{momentOf, fairAfter, Fit, fit-kept, fit-marked, Does, does-then, does-nothing, does-still, does-one, plain-marked, least, SitsIn, sits-none, sits-more}
 use Rattle.undoing.proofs.Beginning.{Begins, begins, begins-in-turn, begins-nothing, quiet-set, quiet-cons}
 use Rattle.undoing.proofs.Breaking.{cleared-kept, cleared-quiet}
 use Rattle.undoing.proofs.Scoping.{Acted, RunAs}
+use Rattle.undoing.proofs.Sends.{by-send}
 
 -- it runs on or is over
 abbrev pub GoAs : Plan → Act → (k : ℕ) → Order → List Event → Order → Result → Type 0
@@ -243,11 +243,10 @@ module _ (p : Plan) where
       → Acted k (1 + sizes within) o (RunAs p (act own within) k k o) (itself own within q₀ k o)
   unfolding itself kind least isDoer
   acts-itself empty within q₀ k o s a i c z u f l e q m = absurd (false≢true i)
-  acts-itself (send x y vs) within q₀ k o s a i c z u f l e q m = go (allBound o vs)
-    where
-      go : (b : Bool) → Acted k (1 + sizes within) o (RunAs p (act (send x y vs) within) k k o) (cond b (finishes k o) (raises unboundVariable k o))
-      go true = go-run k (go-finishes (send x y vs) within k o o refl refl (λ s j. (refl, refl, refl)) z q (omega arith))
-      go false = acts-raises unboundVariable (send x y vs) within k o u f s z q
+  acts-itself (send x y vs) within q₀ k o s a i c z u f l e q m =
+      by-send (Acted k (1 + sizes within) o (RunAs p (act (send x y vs) within) k k o)) x y vs within q₀ k o
+      (go-run k (go-finishes (send x y vs) within k o o refl refl (λ s j. (refl, refl, refl)) z q (omega arith)))
+      (λ n. acts-raises n (send x y vs) within k o u f s z q)
   acts-itself (receive x y vs) within q₀ k o s a i c z u f l e q m = go-run k (go-finishes (receive x y vs) within k o o refl refl (λ s j. (refl, refl, refl)) z q (omega arith))
   acts-itself (setting v x) within q₀ k o s a i c z u f l e q m =
       acts-or-raises (setting v x) within k o _ (evaluate x o) u f s z q

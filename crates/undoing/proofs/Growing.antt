@@ -8,7 +8,7 @@ use lib.ListN.{length, getD, length-set}
 use lib.Seq.{getD-set-same}
 use lib.Dec.{eqb, ltb}
 use borrow.Author.Tests.{eqb-true, eqb-false, ltb-true, ltb-false}
-use Rattle.plan.specs.Tree.{Own, empty, send, receive, set as setting, raise, leave, choose, repeat, sequence, flow, pick, scope, arm, kind, isScope, isPick, Act, act, Acts, more, Plan, size, sizes, count, undoPart}
+use Rattle.plan.specs.Tree.{Own, empty, send, receive, set as setting, raise, leave, choose, repeat, sequence, flow, pick, scope, arm, kind, isScope, isPick, Act, act, Acts, more, Plan, size, sizes, count, undoPart, toPartner, toHeld, fromPartner, fromAsking}
 use Rattle.order.specs.declared.Order.{Order}
 use Rattle.order.specs.Lists.{some}
 use Rattle.order.specs.State.{idle, active, inside, withMarks, marked, markAt, binding}
@@ -18,7 +18,7 @@ use Rattle.order.specs.Begin.{partAt, beginPart, beginAfter, cleared}
 use Rattle.order.specs.declared.Way.{Way as Result}
 use Rattle.order.specs.declared.Way.the-variants.{Running as running, Over as over, Raising as raising, Leaving as leaving, Undone as undone, UndoRaising as undoRaising}
 use Rattle.order.specs.Scope.{Outcome, runs, begunIn, whereOver, Scope, scopeAt, closing, fromBody, fromFault, goesThrough, fromUndo}
-use Rattle.order.specs.Acting.{finishes, raises, orRaises, enters, again, repeats, allBound, itself, isPart, arms, goesOn, joins, inScope, combines, stepIn, stepAmong, Actor, replaces, performs}
+use Rattle.order.specs.Acting.{finishes, raises, orRaises, enters, again, repeats, itself, isPart, arms, goesOn, joins, inScope, combines, stepIn, stepAmong, Actor, replaces, performs}
 use Rattle.order.specs.Taking.{actAt}
 use Rattle.undoing.specs.Begun.{lasts, isScopeKind}
 use Rattle.undoing.specs.Entirely.{isRash}
@@ -32,6 +32,7 @@ use Rattle.undoing.proofs.Keeping.{again-goes, joins-goes, follows-goes
 use Rattle.undoing.proofs.Keeping as keeping
 use Rattle.undoing.proofs.Dropping.{isBad, among-drops, combines-has, calmer, not-bad}
 use Rattle.undoing.proofs.AfreshSteps.{Stood, StoodIn, stood-here, stood-within, stood-first, stood-later}
+use Rattle.undoing.proofs.Sends.{by-send}
 
 abbrev log-of : Outcome → List Event
 log-of o = o .log
@@ -111,7 +112,7 @@ module _ (f : ℕ → ℕ) where
       → (j : ℕ) → lasts (f j) ≡ true → (j ≡ k → ⊥) → (k < j → j < k + 1 + sizes within → ⊥) → Up (o .marks) j → Up (itself own within q k o .order .marks) j
   unfolding itself needs least kind closing repeats
   itself-grows empty within q k o e n y m j l d c u = u
-  itself-grows (send a b vs) within q k o e n y m j l d c u = decide (allBound o vs) (λ t. rw t (up-other (o .marks) k idle j d u)) (λ t. rw t (up-other (o .marks) k idle j d u))
+  itself-grows (send a b vs) within q k o e n y m j l d c u = by-send (λ r. Up (r .order .marks) j) a b vs within q k o (up-other (o .marks) k idle j d u) (λ x. up-other (o .marks) k idle j d u)
   itself-grows (receive a b vs) within q k o e n y m j l d c u = up-other (o .marks) k idle j d u
   itself-grows (setting v x) within q k o e n y m j l d c u = go (evaluate x o)
     where
@@ -208,8 +209,10 @@ module _ (f : ℕ → ℕ) where
   again-up : (own : Own) (within : Acts) (k t : ℕ) (r : Outcome) → kind own ≡ 7 → k < length (r .order .marks) → Up (r .order .marks) k → Up (combines own within k t r .order .marks) k
   unfolding combines kind
   again-up empty within k t r e m u = absurd (omega arith)
-  again-up (send a b vs) within k t r e m u = absurd (omega arith)
-  again-up (receive a b vs) within k t r e m u = absurd (omega arith)
+  again-up (send (toPartner a) b vs) within k t r e m u = absurd (omega arith)
+  again-up (send (toHeld held reply) b vs) within k t r e m u = absurd (omega arith)
+  again-up (receive (fromPartner a) b vs) within k t r e m u = absurd (omega arith)
+  again-up (receive (fromAsking a kept) b vs) within k t r e m u = absurd (omega arith)
   again-up (setting v x) within k t r e m u = absurd (omega arith)
   again-up (raise zero) within k t r e m u = absurd (omega arith)
   again-up (raise (suc number)) within k t r e m u = absurd (omega arith)

@@ -13,14 +13,14 @@ use Rattle.order.specs.declared.Order.{Order}
 use Rattle.order.specs.declared.End.{End}
 use Rattle.order.specs.declared.End.the-variants.{None, Well, Handled, Failed, Left}
 use Rattle.order.specs.Lists.{some}
-use Rattle.order.specs.State.{isLive, noOrder, idle, active, inside, done, faulty, undoing, handling, withdrawing, withMarks, markAt, marked, markOf, marking, binding, stateOf}
+use Rattle.order.specs.State.{isLive, noOrder, idle, active, inside, done, undoing, handling, withdrawing, withMarks, markAt, marked, markOf, marking, binding, stateOf}
 use Rattle.order.specs.Event.{Event}
-use Rattle.order.specs.Expression.{unboundVariable, conflictingReceive, Value, fault, value, evaluate, isTrue}
+use Rattle.order.specs.Expression.{conflictingReceive, Value, fault, value, evaluate, isTrue}
 use Rattle.order.specs.Begin.{Begun, begin, beginAfter, part, partAt, beginPart, cleared, quiet}
 use Rattle.order.specs.declared.Way.{Way as Result}
 use Rattle.order.specs.declared.Way.the-variants.{Running as running, Over as over, Raising as raising, Leaving as leaving, Undone as undone, UndoRaising as undoRaising}
 use Rattle.order.specs.Scope.{Outcome, rootOf, runs, after, begunIn, whereOver, Scope, scopeAt, isOpen, forgetting, closing, turns, stop, faults, breaks, looksAgain, bodyOver, bodyRaised, undoOver, undoRaised, fromBody, partOver, partRaised, fromFault, fromUndo, goesThrough}
-use Rattle.order.specs.Acting.{finishes, raises, leaves, orRaises, enters, again, repeats, allBound, itself, isPart, arms, goesOn, joins, inScope, combines, stepIn, stepAmong, stepRoot, endOf, movedTo, Actor, replaces, performs, acted}
+use Rattle.order.specs.Acting.{finishes, raises, leaves, orRaises, enters, again, repeats, itself, isPart, arms, goesOn, joins, inScope, combines, stepIn, stepAmong, stepRoot, endOf, movedTo, Actor, replaces, performs, acted}
 use Rattle.machine.specs.Fit.{awaits}
 use Rattle.undoing.specs.Orderly.{isBeganOf}
 use Rattle.undoing.specs.Begun.{lasts, acts, ownsIn, ownsAmong, ownsAt, hasBegan, goesIn, isScopeKind}
@@ -35,6 +35,7 @@ use Rattle.undoing.proofs.Waiting.{Waits, waits-itself, waits-within, W
 use Rattle.undoing.proofs.Roots.{Awaited, in-body, in-fault}
 use Rattle.undoing.proofs.Truly.{scope-kind, or-case, began-in, began-neither, Up, Stay, stay-up, stay-then, stay-other, not-cleared, stay-idle, stay-cleared, shifts, Arms, needs, Knows, knows, KnowsIn, knows-none, knows-more, Began}
 use Rattle.undoing.proofs.Lasting.{isRaising, part-began, after-began, owned-other, stay-marking, Goes, goes-runs, goes-where, goes-begun, goes-marked, goes-either, finishes-goes, Within, turns-goes, looks-goes, over-goes, undone-goes, part-goes, scope-needs, scope-within, stop-halts}
+use Rattle.undoing.proofs.Sends.{by-send}
 
 -- a repeat and no other of these that are no scopes
 repeat-shifts : (n : ℕ) → isScopeKind n ≡ false → shifts n ≡ true → eqb n 7 ≡ true
@@ -558,7 +559,7 @@ module _ (f : ℕ → ℕ) where
     unfolding itself needs least kind acts goesIn closing some isBeganOf
     itself-steps empty within q₀ k o e n a y m q h = still-steps (k + 1) o (λ j z. false≢true (h j z .1))
     itself-steps (send b c vs) within q₀ k o e n a y m q h =
-        decide (allBound o vs) (λ t. rw t (idle-steps k o (finishes k o) refl (λ j. refl) (λ j z. h j z .0))) (λ t. rw t (idle-steps k o (raises unboundVariable k o) refl (λ j. refl) (λ j z. h j z .0)))
+        by-send (Steps g (k + 1) o) b c vs within q₀ k o (idle-steps k o (finishes k o) refl (λ j. refl) (λ j z. h j z .0)) (λ x. idle-steps k o (raises x k o) refl (λ j. refl) (λ j z. h j z .0))
     itself-steps (receive b c vs) within q₀ k o e n a y m q h = idle-steps k o (finishes k o) refl (λ j. refl) (λ j z. h j z .0)
     itself-steps (setting v x) within q₀ k o e n a y m q h = or-steps k o _ (evaluate x o) (λ j z. h j z .0) (λ i. idle-steps k o (finishes k (binding v i o)) refl (λ j. refl) (λ j z. h j z .0))
     itself-steps (raise number) within q₀ k o e n a y m q h = idle-steps k o (raises number k o) refl (λ j. refl) (λ j z. h j z .0)

@@ -14,21 +14,22 @@ use Rattle.order.specs.declared.End.the-variants.{None, Well, Handled, Failed, 
 use Rattle.order.specs.Lists.{some}
 use Rattle.order.specs.State.{root, idle, active, inside, faulty, undoing, handling, halted, withdrawing, done, withMarks, markAt, marked, markOf, marking, causing, stateOf, going, markWith, choiceOf}
 use Rattle.order.specs.Event.{Event, began, closed, faulted, stopped, raised, left, ended}
-use Rattle.order.specs.Expression.{unboundVariable, conflictingReceive, Value, fault, value, evaluate, isTrue}
+use Rattle.order.specs.Expression.{conflictingReceive, Value, fault, value, evaluate, isTrue}
 use Rattle.order.specs.Begin.{Begun, throughout, around, itsBeginning, inTurn, begin, beginInTurn, beginAll, beginAfter, part, partAt, beginPart, cleared, quiet, nothingBegun}
 use Rattle.order.specs.declared.Way.{Way as Result}
 use Rattle.order.specs.declared.Way.the-variants.{Running as running, Over as over, Raising as raising, Leaving as leaving, Undone as undone, UndoRaising as undoRaising}
 use Rattle.order.specs.Scope.{Outcome, rootOf, runs, begunIn, whereOver, Scope, scopeAt, isOpen, innerRuns, closing, beginUndo, beginUndoIn, startUndo, undo, ends, handle, undoes, turns, rememberedFor, untouched, withdraws, stop, stopAll, stopFirst, faults, breaks, looksAgain, bodyOver, bodyRaised, undoOver, undoRaised, fromBody, partOver, partRaised, fromFault, fromUndo, goesThrough, beginUndoFirst, choiceFor, chosenPart, chosenAt}
 use Rattle.order.specs.Scope as definitions
-use Rattle.order.specs.Acting.{finishes, raises, orRaises, again, repeats, allBound, itself, arms, goesOn, joins, inScope, combines, stepIn, stepAmong, stepRoot, endOf, movedTo, Actor, replaces, performs, acted}
+use Rattle.order.specs.Acting.{finishes, raises, orRaises, again, repeats, itself, arms, goesOn, joins, inScope, combines, stepIn, stepAmong, stepRoot, endOf, movedTo, Actor, replaces, performs, acted}
 use Rattle.undoing.proofs.Stepping.{scope-performs}
 use Rattle.undoing.specs.Orderly.{isBeganOf}
 use Rattle.undoing.specs.Begun.{hasBegan, Lead, alone, together, inOrder, inStep, leadOf, mayLead}
-use Rattle.undoing.proofs.Parts.{both, decide, some-append}
+use Rattle.undoing.proofs.Parts.{decide, some-append}
 use Rattle.undoing.proofs.Choices.{chosen-each, root-chosen, general-there, undo-there}
 use Rattle.undoing.proofs.Orders.{least}
 use Rattle.undoing.proofs.Truly.{or-case, began-in}
 use Rattle.plan.specs.Within.{scopeParts}
+use Rattle.undoing.proofs.Sends.{by-send}
 
 module _ (lead : ℕ → Lead) where
   -- a tree whose leads are known
@@ -444,7 +445,7 @@ module _ (lead : ℕ → Lead) where
         → k ≡ t → Fine (itself own within q k o .log)
     unfolding itself kind least isBeganOf repeats
     itself-fine empty within q k o s n y e = fine-none
-    itself-fine (send a b vs) within q k o s n y e = decide (allBound o vs) (λ d. rw d fine-none) (λ d. rw d (fine-event (raised k unboundVariable) [] (λ j. refl) fine-none))
+    itself-fine (send a b vs) within q k o s n y e = by-send (λ r. Fine (r .log)) a b vs within q k o fine-none (λ x. fine-event (raised k x) [] (λ j. refl) fine-none)
     itself-fine (receive a b vs) within q k o s n y e = fine-none
     itself-fine (setting v x) within q k o s n y e = or-fine k o _ (evaluate x o) (λ i. fine-none)
     itself-fine (raise number) within q k o s n y e = fine-event (raised k number) [] (λ j. refl) fine-none

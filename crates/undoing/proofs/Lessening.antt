@@ -13,12 +13,12 @@ use Rattle.plan.specs.Tree.{Own, empty, send, receive, set as setting, raise, l
 use Rattle.order.specs.declared.Order.{Order}
 use Rattle.order.specs.Lists.{some, only}
 use Rattle.order.specs.State.{active, inside, binding, markAt, marked}
-use Rattle.order.specs.Expression.{unboundVariable, Value, fault, value, evaluate, isTrue}
+use Rattle.order.specs.Expression.{Value, fault, value, evaluate, isTrue}
 use Rattle.order.specs.Begin.{beginAfter, beginPart, quiet}
 use Rattle.order.specs.declared.Way.{Way as Result}
 use Rattle.order.specs.declared.Way.the-variants.{Running as running, Over as over, Raising as raising, Leaving as leaving, Undone as undone, UndoRaising as undoRaising}
 use Rattle.order.specs.Scope.{Outcome, runs, after, begunIn, whereOver}
-use Rattle.order.specs.Acting.{allBound, finishes, raises, orRaises, enters, itself, goesOn, joins, combines, arms, itsOwn, replaces, performs, stepIn, stepAmong}
+use Rattle.order.specs.Acting.{finishes, raises, orRaises, enters, itself, goesOn, joins, combines, arms, itsOwn, replaces, performs, stepIn, stepAmong}
 use Rattle.machine.specs.Fit.{awaits}
 use Rattle.undoing.specs.Ties.{Place}
 use Rattle.undoing.specs.Answered.{isSure, hasAll, surely, surelyAmong, without}
@@ -34,6 +34,7 @@ use Rattle.undoing.proofs.Combining.{OneAs, quiet-told, quiet-found, ar
 use Rattle.undoing.proofs.Stepping.{PartOf, step-is, among-is, steps, steps-one, steps-all}
 use Rattle.undoing.proofs.Sure.{leftIn, leftInTurn, leftOfAll, off-below, off-above, surely-off-in, surely-none, surely-none-in, left-off, turn-off, all-off, left-quiet, left-agree, all-same, surelyAfter, Comes, after-comes}
 use Rattle.undoing.proofs.Sure as sure
+use Rattle.undoing.proofs.Sends.{by-send}
 
 -- the definition, by where the step is, of a step that is an activity's own
 pub own-is : (own : Own) (within : Acts) (y₀ k t : ℕ) (o : Order) (b : Bool) → isScope own ≡ false → eqb k t ≡ b
@@ -216,11 +217,7 @@ module _ (p : Plan) where
       → Quiet (o .marks) (k + 1) (sizes within) → k + (1 + sizes within) ≤ length (o .marks) → DoneAs k (itself own within y₀ k o .order .marks) (itself own within y₀ k o .result)
   unfolding isSure itself least kind
   sure-done empty within y₀ k o s g d f l q m = absurd (false≢true s)
-  sure-done (send x y vs) within y₀ k o s g d f l q m = go (allBound o vs)
-    where
-      go : (b : Bool) → DoneAs k (cond b (finishes k o) (raises unboundVariable k o) .order .marks) (cond b (finishes k o) (raises unboundVariable k o) .result)
-      go true = tt
-      go false = tt
+  sure-done (send x y vs) within y₀ k o s g d f l q m = by-send (λ r. DoneAs k (r .order .marks) (r .result)) x y vs within y₀ k o tt (λ n. tt)
   sure-done (receive x y vs) within y₀ k o s g d f l q m = tt
   sure-done (setting v x) within y₀ k o s g d f l q m = go (evaluate x o)
     where

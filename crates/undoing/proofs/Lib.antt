@@ -14,6 +14,7 @@ pub mod Stopping
 pub mod Waiting
 pub mod Breaking
 pub mod Scoping
+pub mod Sends
 pub mod Goings
 pub mod Combining
 pub mod Stepping
@@ -95,5 +96,14 @@ pub mod Finding
 pub mod Locating
 pub mod OfOrder
 pub mod OneTime
+pub mod Stacks
+pub mod Takers
+pub mod Remaining
+pub mod Heads
+pub mod Noting
 pub mod NeverTwice
+pub mod Lying
+pub mod LeftAlone
+pub mod AloneTold
+pub mod LatestTold
 pub mod AnyScopeExamples

@@ -56,7 +56,7 @@ module _ {p : Plan} where
   mutual
     unfolding part partAt kind
 
-    locate : {q : Place} {a : Act} {k : ℕ} → Sits p q a k → Knows (kindAt p) a k → Leads (leadAt p) a k → (e : ℕ) → hasBack a k e ≡ true → Located p e (backs a k e)
+    pub locate : {q : Place} {a : Act} {k : ℕ} → Sits p q a k → Knows (kindAt p) a k → Leads (leadAt p) a k → (e : ℕ) → hasBack a k e ≡ true → Located p e (backs a k e)
     locate (sits-part {own = own} {within} {k} s g v y l) (knows _ _ _ kn) (leads-part _ _ w) e h =
         let x = backs-part own within k e s in subst (Located p e) (sym x) (locate-in l kn w e (ap (λ (z : Back). z .has) (sym x) ∙ h))
     locate (sits-part s g v y l) kn (leads-scope _ _ _ _) e h = absurd (not-scope s)

@@ -70,7 +70,7 @@ none-some f (raised i x ∷ l) z = none-some f l (λ j x. let e = z j x in omega
 none-some f (left ∷ l) z = none-some f l (λ j x. let e = z j x in omega arith)
 
 -- where a scope ends
-scope-end : (xs : List ℕ) (v : Bool) (b : Act) (l : Acts) → count l ≡ length xs + cond v 2 1 → (k : ℕ) (n : Name) (ns : List Name)
+pub scope-end : (xs : List ℕ) (v : Bool) (b : Act) (l : Acts) → count l ≡ length xs + cond v 2 1 → (k : ℕ) (n : Name) (ns : List Name)
     → beyondAll (innerAt xs v k n ns (more b l)) ≡ k + (1 + sizes (more b l))
 unfolding count
 scope-end xs true b l many k n ns = omega (arith, at-last (undoPart xs) (more b l) (k + 1) (omega (arith, general-is xs)))

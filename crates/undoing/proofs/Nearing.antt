@@ -1,35 +1,36 @@
 -- Nothing begins in a scope in which the step does not stand, unless the scope begins or is stopped with it. Read off the logs alone. Assumes nothing.
 use Prim.Native.Nat.{ℕ, zero, suc, _+_, _≤_, _<_}
 use native.Mathlib.Omega.{arith}
-use mathlib.Core.Path.{_≡_, refl, sym, ap, subst, _∙_}
-use mathlib.Core.Bool.{Bool, true, false, cond, not, _&&_, _||_, false≢true, or-true}
-use mathlib.Core.List.{List, [], _∷_, _++_, reverse, reverse-cons}
+use mathlib.Core.Path.{_≡_, refl, sym, subst, _∙_}
+use mathlib.Core.Bool.{Bool, true, false, cond, not, _||_, false≢true, or-true}
+use mathlib.Core.List.{List, [], _∷_, _++_}
 use lib.ListN.{set}
 use lib.Dec.{eqb, ltb, leb}
-use borrow.Author.Tests.{eqb-true, eqb-false, eq-eqb, ltb-true, ltb-false, lt-ltb, le-ltb, leb-true}
+use borrow.Author.Tests.{eqb-true, eqb-false, eq-eqb, ltb-true, ltb-false, leb-true}
 use Rattle.plan.specs.Tree.{Own, empty, send, receive, set as setting, raise, leave, choose, repeat, sequence, flow, pick, scope, arm, kind, Act, act, Acts, none, more, Plan, size, sizes, count, isScope, hasUndo, isPick, numbersOf, undoPart, generalPart}
 use Rattle.order.specs.declared.Order.{Order}
-use Rattle.order.specs.Lists.{every, some, only, withoutLast}
-use Rattle.order.specs.State.{idle, active, inside, faulty, undoing, handling, halted, withdrawing, done, withMarks, closings, remembering, markAt, marked, markOf, marking, binding, causing, stateOf, going, markWith, choiceOf}
-use Rattle.order.specs.Event.{Event, began, stopped, faulted, ended}
+use Rattle.order.specs.Lists.{some}
+use Rattle.order.specs.State.{idle, active, inside, faulty, undoing, handling, halted, withdrawing, done, withMarks, markAt, marked, markOf, marking, causing, stateOf, going, markWith, choiceOf}
+use Rattle.order.specs.Event.{Event, began, stopped, faulted}
 use Rattle.order.specs.Expression.{conflictingReceive, Value, fault, value, evaluate, isTrue}
-use Rattle.order.specs.Begin.{Begun, nothingBegun, throughout, around, itsBeginning, inTurn, begin, beginInTurn, beginAll, beginFirst, beginAfter, part, partAt, beginPart, cleared, quiet}
+use Rattle.order.specs.Begin.{Begun, nothingBegun, throughout, around, inTurn, begin, beginInTurn, beginAll, beginFirst, beginAfter, part, partAt, beginPart, cleared, quiet}
 use Rattle.order.specs.declared.Way.{Way as Result}
 use Rattle.order.specs.declared.Way.the-variants.{Running as running, Over as over, Raising as raising, Leaving as leaving, Undone as undone, UndoRaising as undoRaising}
 use Rattle.order.specs.Scope.{Outcome, rootOf, runs, begunIn, whereOver, Scope, scopeAt, isOpen, innerRuns, closing, beginUndo, beginUndoFirst, beginUndoIn, startUndo, undo, ends, handle, undoes, turns, rememberedFor, untouched, withdraws, stop, stopAll, stopFirst, faults, breaks, looksAgain, bodyOver, bodyRaised, undoOver, undoRaised, fromBody, partOver, partRaised, fromFault, fromUndo, goesThrough, choiceFor, chosenPart, chosenAt}
 use Rattle.order.specs.Scope as definitions
-use Rattle.order.specs.Acting.{finishes, raises, orRaises, enters, again, repeats, allBound, itself, arms, goesOn, joins, inScope, combines, stepIn, stepAmong, stepRoot, Actor, replaces, performs}
+use Rattle.order.specs.Acting.{finishes, raises, orRaises, again, repeats, itself, arms, goesOn, joins, inScope, combines, stepIn, stepAmong, stepRoot, Actor, replaces, performs}
 use Rattle.undoing.specs.Orderly.{isBeganOf}
 use Rattle.undoing.specs.Begun.{hasBegan}
 use Rattle.undoing.specs.Entirely.{times, isStopOf}
-use Rattle.undoing.proofs.Parts.{both, decide, every-append, some-append}
+use Rattle.undoing.proofs.Parts.{decide, some-append}
 use Rattle.undoing.proofs.Choices.{chosen-each, root-chosen}
 use Rattle.undoing.proofs.Orders.{least}
 use Rattle.undoing.proofs.Places.{first-of, second-of}
 use Rattle.undoing.proofs.Stepping.{at-first}
 use Rattle.undoing.proofs.Truly.{Arms, needs, Knows, knows, KnowsIn, knows-none, knows-more}
-use Rattle.undoing.proofs.Entire.{Two, times-append, times-event, Zero, zero-part, Starts, Ranks, Named, begin-starts, turn-starts, all-starts}
-use Rattle.undoing.proofs.Entering.{scope-arms, scope-undo, scope-general, Strict, StrictIn, InList, part-list, undo-strict, undo-in-strict, stop-strict, stop-all-strict, StepsAt, StepsIn, step-at, among-at}
+use Rattle.undoing.proofs.Entire.{Two, times-append, Zero, zero-part, Named, begin-starts, turn-starts, all-starts}
+use Rattle.undoing.proofs.Entering.{scope-arms, scope-undo, scope-general, part-list, undo-strict, undo-in-strict, stop-strict, stop-all-strict, step-at, among-at}
+use Rattle.undoing.proofs.Sends.{by-send}
 
 abbrev log-of : Outcome → List Event
 log-of o = o .log
@@ -425,7 +426,7 @@ module _ (t : ℕ) where
     itself-local : (own : Own) (within : Acts) (q₀ k : ℕ) (o : Order) → needs own ≤ count within → Arms (isPick own) within → KnowsIn f within (k + 1) → LocalIn (itself own within q₀ k o .log) within (k + 1)
     unfolding itself needs least kind times isBeganOf closing repeats
     itself-local empty within q₀ k o n r y = in-none [] within (k + 1) (λ j. refl)
-    itself-local (send a b vs) within q₀ k o n r y = decide (allBound o vs) (λ e. rw e (in-none [] within (k + 1) (λ j. refl))) (λ e. rw e (in-none _ within (k + 1) (λ j. refl)))
+    itself-local (send a b vs) within q₀ k o n r y = by-send (λ x. LocalIn (x .log) within (k + 1)) a b vs within q₀ k o (in-none [] within (k + 1) (λ j. refl)) (λ x. in-none _ within (k + 1) (λ j. refl))
     itself-local (receive a b vs) within q₀ k o n r y = in-none [] within (k + 1) (λ j. refl)
     itself-local (setting v e) within q₀ k o n r y = or-local within (k + 1) k o _ (evaluate e o) (λ i. in-none [] within (k + 1) (λ j. refl))
     itself-local (raise zero) within q₀ k o n r y = in-none _ within (k + 1) (λ j. refl)

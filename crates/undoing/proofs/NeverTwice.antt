@@ -2,7 +2,7 @@
 use Prim.Native.Nat.{ℕ, zero, suc, _+_, _≤_}
 use native.Mathlib.Omega.{arith}
 use mathlib.Core.Path.{_≡_, refl, sym, ap, subst, _∙_}
-use mathlib.Core.Bool.{Bool, true, false, cond, not, _&&_, false≢true}
+use mathlib.Core.Bool.{Bool, true, false, cond, _&&_, false≢true}
 use mathlib.Core.List.{List, [], _∷_, _++_}
 use lib.ListN.{length, getD, length-append}
 use lib.Dec.{eqb, leb, ltb}
@@ -21,8 +21,8 @@ use Rattle.order.specs.Lists.{every, some, only}
 use Rattle.order.specs.State.{root, isLive, noOrder}
 use Rattle.machine.specs.State.{fresh}
 use Rattle.order.specs.Event.{Event, started, began, closed, faulted, stopped, ended, raised, left}
-use Rattle.order.specs.Expression.{unboundVariable, Value, fault, value, evaluate}
-use Rattle.order.specs.Acting.{allBound, Actor, itsOwn, inPlace, Moved, acted, begunOrder, startedOrder}
+use Rattle.order.specs.Expression.{Value, fault, value, evaluate}
+use Rattle.order.specs.Acting.{Actor, itsOwn, inPlace, Moved, acted, begunOrder, startedOrder}
 use Rattle.order.specs.Judging.{Verdict, clear, clash, conflict, following, upon, judged, spare, settled, stepOrder}
 use Rattle.machine.specs.Calls.{loadedAs, load, post, collect, dropAt, Stepped, doingAt, step, Call, posting, collecting, dropping, stepping}
 use Rattle.undoing.specs.History.{logOf}
@@ -49,6 +49,7 @@ use Rattle.undoing.proofs.OfOrder.{oneIf, Within, within-all, within-no
 use Rattle.undoing.proofs.OneTime.{first, its, isLeft, own-left, time-fewer, start-fewer}
 use Rattle.undoing.proofs.AsOften.{every-named, every-among}
 use Rattle.undoing.proofs.TakenBack.{endIn, end-in, fresh-free}
+use Rattle.undoing.proofs.Sends.{by-sent}
 
 -- how many events are such
 many-append : (f : Event → Bool) (l m : List Event) → howMany f (l ++ m) ≡ howMany f l + howMany f m
@@ -59,7 +60,7 @@ unfolding only
 many-more f e l = decide (f e) (λ t. rw t (omega arith)) (λ t. rw t (omega arith))
 
 -- where one began there is one
-some-many : (f : Event → Bool) (l : List Event) → some f l ≡ true → 1 ≤ howMany f l
+pub some-many : (f : Event → Bool) (l : List Event) → some f l ≡ true → 1 ≤ howMany f l
 unfolding some only
 some-many f [] h = absurd (false≢true h)
 some-many f (e ∷ l) h = decide (f e) (λ t. rw t (omega arith)) (λ t. rw t (some-many f l (rw t at h)))
@@ -106,11 +107,6 @@ closed-deeds k (e ∷ l) =
     (λ t. rw (t, closed-deed k e t, t, closed-deeds k l))
     (λ t. decide (isDeed e) (λ d. rw (t, d, t, closed-deeds k l)) (λ d. rw (t, d, closed-deeds k l)))
 
-raised-shut : (e k x : ℕ) (b : Bool) → howMany (isClosedOf e) (raisedIf k x b) ≤ oneIf (eqb e k)
-unfolding only isClosedOf
-raised-shut e k x true = omega arith
-raised-shut e k x false = omega arith
-
 fault-shut : (e k : ℕ) (v : Value) → howMany (isClosedOf e) (raisedBy k v) ≤ oneIf (eqb e k)
 unfolding only isClosedOf
 fault-shut e k (fault x) = omega arith
@@ -119,7 +115,7 @@ fault-shut e k (value n) = omega arith
 deed-shut : (own : Own) (e k : ℕ) (o : Order) → howMany (isClosedOf e) (deedOf own k o) ≤ oneIf (eqb e k)
 unfolding deedOf only isClosedOf
 deed-shut empty e k o = omega arith
-deed-shut (send x y vs) e k o = raised-shut e k unboundVariable (not (allBound o vs))
+deed-shut (send x y vs) e k o = by-sent (λ l. howMany (isClosedOf e) l ≤ oneIf (eqb e k)) x y vs k o (omega arith) (λ n. omega arith)
 deed-shut (receive x y vs) e k o = omega arith
 deed-shut (setting v x) e k o = fault-shut e k (evaluate x o)
 deed-shut (raise number) e k o = omega arith
@@ -166,9 +162,19 @@ one-most true = omega arith
 one-most false = omega arith
 
 -- what is written down of a step, and how often it closes; of a raise in place of a receive nothing, and never
-abbrev wrote : Actor → (i k : ℕ) → ℕ
+abbrev pub wrote : Actor → (i k : ℕ) → ℕ
 wrote itsOwn i k = oneIf (eqb i k)
 wrote inPlace i k = 0
+
+-- how often a step closes a scope
+pub acted-shut : (p : Plan) (e : ℕ) (actor : Actor) (k : ℕ) (o : Order) → Fitting actor p k → howMany (isClosedOf e) (acted actor p k o .log) ≤ wrote actor e k
+unfolding only isClosedOf
+acted-shut p e itsOwn k o f =
+    let a = closed-deeds e (acted itsOwn p k o .log) in
+    let b = ap (λ (l : List Event). howMany (isClosedOf e) l) (acted-deeds p k o) in let c = deed-at-shut p e k o in omega arith
+acted-shut p e inPlace k o f =
+    let a = closed-deeds e (acted inPlace p k o .log) in
+    let b : howMany (isClosedOf e) (only isDeed (acted inPlace p k o .log)) ≡ 0 = ap (λ (l : List Event). howMany (isClosedOf e) l) (raised-deeds p k o f) in omega arith
 
 -- One step that takes one scope back.
 module _ (p : Plan) (h : Promised p) (e t : ℕ) (takes : some (eqb t) (backOf p e) ≡ true) where
@@ -198,14 +204,6 @@ module _ (p : Plan) (h : Promised p) (e t : ℕ) (takes : some (eqb t) (backOf p
     shut : shuts (m .log) ≤ C
     comes : m .end ≡ None → A + mark (m .order .marks) ≤ B + begins (m .log)
 
-  acted-shut : (actor : Actor) (k : ℕ) (o : Order) → Fitting actor p k → shuts (acted actor p k o .log) ≤ wrote actor e k
-  unfolding only isClosedOf
-  acted-shut itsOwn k o f =
-      let a = closed-deeds e (acted itsOwn p k o .log) in
-      let b = ap (λ (l : List Event). shuts l) (acted-deeds p k o) in let c = deed-at-shut p e k o in omega arith
-  acted-shut inPlace k o f =
-      let a = closed-deeds e (acted inPlace p k o .log) in let b : shuts (only isDeed (acted inPlace p k o .log)) ≡ 0 = ap (λ (l : List Event). shuts l) (raised-deeds p k o f) in omega arith
-
   -- where it is the step it was to come
   was-left : (actor : Actor) (k : ℕ) (o : Order) → Awaited p (o .marks) k → Standing p o → wrote actor t k ≤ mark (o .marks)
   was-left itsOwn k o w st =
@@ -222,7 +220,7 @@ module _ (p : Plan) (h : Promised p) (e t : ℕ) (takes : some (eqb t) (backOf p
   acted-kept : (actor : Actor) (k : ℕ) (o o′ : Order) (past : List Event) (A B : ℕ) → Fitting actor p k → Alike p o o′ → Awaited p (o .marks) k → Standing p o → HoldsAt p (momentOf p o) past
       → A + mark (o .marks) ≤ B → Kept (A + wrote actor t k) B (wrote actor e k) (acted actor p k o′)
   acted-kept actor k o o′ past A B f like w st g c =
-      record { unstarted = log-starts actor p k o′ f; shut = acted-shut actor k o′ f; comes = λ d. go (live d) }
+      record { unstarted = log-starts actor p k o′ f; shut = acted-shut p e actor k o′ f; comes = λ d. go (live d) }
     where
       m : Moved
       m = acted actor p k o′

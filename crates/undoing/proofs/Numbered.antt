@@ -6,27 +6,27 @@ use mathlib.Core.Bool.{Bool, true, false, cond, _||_, _&&_}
 use mathlib.Core.List.{List, [], _∷_, _++_}
 use lib.ListN.{drop, getD}
 use lib.Dec.{eqb, ltb}
-use Rattle.plan.specs.Tree.{Own, empty, send, receive, set as setting, raise, leave, choose, repeat, sequence, flow, pick, scope, arm, kind, isScope, isPick, numbersOf, undoPart, Act, act, Acts, none, more, Plan, size, sizes}
+use Rattle.plan.specs.Tree.{Own, empty, send, receive, set as setting, raise, leave, choose, repeat, sequence, flow, pick, scope, arm, kind, isScope, isPick, numbersOf, undoPart, Act, act, Acts, none, more, Plan, size, sizes, fromPartner, fromAsking}
 use Rattle.order.specs.declared.Order.{Order}
 use Rattle.order.specs.declared.End.{End}
 use Rattle.order.specs.declared.End.the-variants.{None, Well, Handled, Failed, Left}
 use Rattle.machine.specs.declared.Message.{Message}
 use Rattle.order.specs.Lists.{only, withoutLast}
 use Rattle.order.specs.State.{Name, root, inner, idle, active, inside, done, faulty, undoing, handling, halted, withdrawing, withMarks, binding, remembering, closings, markWith, markOf, stateOf, choiceOf, going, markAt, marked, marking, causing, noOrder}
-use Rattle.order.specs.Expression.{unboundVariable, conflictingReceive, Value, fault, value, evaluate, isTrue}
+use Rattle.order.specs.Expression.{conflictingReceive, Value, fault, value, evaluate, isTrue}
 use Rattle.order.specs.Event.{Event, started, began, closed, faulted, stopped, ended, raised, left}
 use Rattle.order.specs.Begin.{Begun, begin, beginAfter, beginPart, partAt, cleared, quiet}
 use Rattle.order.specs.declared.Way.{Way as Result}
 use Rattle.order.specs.declared.Way.the-variants.{Running as running, Over as over, Raising as raising, Leaving as leaving, Undone as undone, UndoRaising as undoRaising}
 use Rattle.order.specs.Scope.{Outcome, runs, after, begunIn, whereOver, Scope, choiceFor, chosenPart, chosenAt, scopeAt, rootOf, isFor, forgetting, closing, innerRuns, beginUndo, startUndo, undo, ends, handle, undoes, turns, rememberedFor, isOpen, untouched, withdraws, stop, stopAll, stopFirst, faults, breaks, looksAgain, bodyOver, bodyRaised, undoOver, undoRaised, fromBody, partOver, partRaised, fromFault, goesThrough, fromUndo}
 use Rattle.order.specs.Scope as definitions
-use Rattle.order.specs.Acting.{finishes, raises, orRaises, again, repeats, allBound, itself, isPart, arms, goesOn, joins, inScope, combines, Actor, itsOwn, inPlace, replaces, performs, stepIn, stepAmong, stepRoot, endOf, faultOf, Moved, movedTo, acted, begunOrder, startedOrder}
+use Rattle.order.specs.Acting.{finishes, raises, orRaises, again, repeats, itself, isPart, arms, goesOn, joins, inScope, combines, Actor, itsOwn, inPlace, replaces, performs, stepIn, stepAmong, stepRoot, endOf, faultOf, Moved, movedTo, acted, begunOrder, startedOrder}
 use Rattle.order.specs.Judging.{Verdict, clear, clash, conflict, following, upon, judged, spare, settled, stepOrder}
 use Rattle.order.specs.Taking.{bindAll}
 use Rattle.machine.specs.Fit.{Doing, noStep, sends, takes, moves, cuts, closes}
-use Rattle.machine.specs.Calls.{orderTaking}
-use Rattle.undoing.proofs.Parts.{decide}
+use Rattle.machine.specs.Calls.{orderTaking, gives}
 use Rattle.undoing.proofs.Aside.{Aside, begin-silent, after-silent, part-silent, begin-undo-silent}
+use Rattle.undoing.proofs.Sends.{by-send}
 
 -- The number of the newest fault of the root in a log, oldest first; where there is none, the one before it.
 abbrev pub nextNumber : (number : ℕ) → Event → ℕ
@@ -304,7 +304,7 @@ repeats-goes k within o =
 itself-goes : (own : Own) (within : Acts) (q k : ℕ) (o : Order) → Goes (o .cause) (itself own within q k o)
 unfolding itself closing only isFaulted
 itself-goes empty within q k o = runs-goes o
-itself-goes (send x y vs) within q k o = decide (allBound o vs) (λ e. rw e (finishes-goes k o)) (λ e. rw e (raises-goes unboundVariable k o))
+itself-goes (send x y vs) within q k o = by-send (Goes (o .cause)) x y vs within q k o (finishes-goes k o) (λ n. raises-goes n k o)
 itself-goes (receive x y vs) within q k o = finishes-goes k o
 itself-goes (setting v x) within q k o = or-goes k o _ (evaluate x o) (λ n. finishes-goes k (binding v n o))
 itself-goes (raise number) within q k o = raises-goes number k o
@@ -460,7 +460,8 @@ pub taking-cause : (d : Doing) (m : Message) (o : Order) → orderTaking d m o .
 unfolding orderTaking
 taking-cause noStep m o = refl
 taking-cause (sends x y vs) m o = refl
-taking-cause (takes x y vs) m o = bound-cause vs (m .values) o
+taking-cause (takes (fromPartner x) y vs) m o = bound-cause vs (gives m) o
+taking-cause (takes (fromAsking x v) y vs) m o = bound-cause vs (gives m) o
 taking-cause moves m o = refl
 taking-cause cuts m o = refl
 taking-cause (closes u s) m o = refl

@@ -8,7 +8,7 @@ use lib.ListN.{length, getD, length-append, List·getD-eq-default}
 use lib.Seq.{getD-append-seam, append-snoc}
 use lib.Dec.{leb}
 use borrow.Author.Tests.{leb-false}
-use Rattle.plan.specs.Tree.{Act, act, Acts, none, more, Plan, size, sizes}
+use Rattle.plan.specs.Tree.{Act, act, Acts, none, more, Plan, size, sizes, partnerFrom}
 use Rattle.order.specs.declared.Order.{Order}
 use Rattle.machine.specs.declared.State.{State}
 use Rattle.order.specs.Lists.{only, some, each, empties}
@@ -102,8 +102,8 @@ step-each : (p : Plan) (wait : ℕ) (l : List Letter) (i : ℕ) (o : Order) (k :
     → Each {A = Offer} (λ x. (x .slot ≡ i) × (x .activity ≡ k)) (stepOffers p wait l i o k d .offered)
 unfolding stepOffers
 step-each p wait l i o k noStep = each-none
-step-each p wait l i o k (sends a b vs) = unless-each (sendHeld wait o vs) (each-more (refl, refl) each-none)
-step-each p wait l i o k (takes a b vs) = each-map _ (λ x. (refl, refl)) (only (mayTake p o a b vs) l)
+step-each p wait l i o k (sends a b vs) = unless-each (sendHeld wait o a vs) (each-more (refl, refl) each-none)
+step-each p wait l i o k (takes a b vs) = each-map _ (λ x. (refl, refl)) (only (mayTake p o (partnerFrom a) b vs) l)
 step-each p wait l i o k moves = each-more (refl, refl) each-none
 step-each p wait l i o k cuts = each-more (refl, refl) each-none
 step-each p wait l i o k (closes undo s) = unless-each (closeHeld o undo s) (each-more (refl, refl) each-none)
@@ -166,7 +166,7 @@ starts-each p o x {l} y = decide (empties (x .fitted)) (λ t. rw t (all y)) (λ 
     one : (a : ℕ) (d : Doing) → Awaited p (o .marks) a → Each (λ k. Awaited p (o .marks) k) (startOf p o x (record { activity = a; step = d }))
     one a noStep w = each-none
     one a (sends b c vs) w = each-none
-    one a (takes b c vs) w = decide (fits p o b c vs (x .message)) (λ t. rw t (each-more w each-none)) (λ t. rw t each-none)
+    one a (takes b c vs) w = decide (fits p o (partnerFrom b) c vs (x .message)) (λ t. rw t (each-more w each-none)) (λ t. rw t each-none)
     one a moves w = each-none
     one a cuts w = each-none
     one a (closes undo s) w = each-none

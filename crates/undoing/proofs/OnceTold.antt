@@ -1,37 +1,38 @@
 -- What lasts begins at most once in a step. Assumes nothing.
-use Prim.Native.Nat.{ℕ, zero, suc, _+_, _≤_, _<_}
+use Prim.Native.Nat.{ℕ, _+_, _≤_, _<_}
 use native.Mathlib.Omega.{arith}
 use mathlib.Core.Path.{_≡_, refl, sym, ap, subst, _∙_}
-use mathlib.Core.Bool.{Bool, true, false, cond, not, _&&_, _||_, false≢true, or-true}
+use mathlib.Core.Bool.{Bool, true, false, cond, _||_, false≢true}
 use mathlib.Core.List.{List, [], _∷_, _++_}
-use lib.ListN.{length, getD}
-use lib.Dec.{eqb, ltb, leb}
-use borrow.Author.Tests.{eqb-true, eqb-false, eq-eqb, ne-eqb, ltb-true, ltb-false, lt-ltb, le-ltb}
-use Rattle.plan.specs.Tree.{Own, empty, send, receive, set as setting, raise, leave, choose, repeat, sequence, flow, pick, scope, arm, kind, Act, act, Acts, none, more, Plan, size, sizes, count, isScope, isPick}
+use lib.ListN.{length}
+use lib.Dec.{eqb, ltb}
+use borrow.Author.Tests.{eqb-true, ltb-false, lt-ltb, le-ltb}
+use Rattle.plan.specs.Tree.{Own, empty, send, receive, set as setting, raise, leave, choose, repeat, sequence, flow, pick, scope, arm, kind, act, Acts, none, more, size, sizes, count, isScope, isPick}
 use Rattle.order.specs.declared.Order.{Order}
 use Rattle.order.specs.Lists.{some}
-use Rattle.order.specs.State.{Name, root, inner, idle, active, inside, faulty, undoing, handling, halted, withdrawing, done, withMarks, markAt, marked, markOf, marking, binding, stateOf}
-use Rattle.order.specs.Event.{Event, began, faulted, ended}
-use Rattle.order.specs.Expression.{unboundVariable, conflictingReceive, Value, fault, value, evaluate, isTrue}
-use Rattle.order.specs.Begin.{Begun, begin, beginInTurn, beginAfter, part, partAt, beginPart, cleared, quiet}
+use Rattle.order.specs.State.{active, inside, undoing, handling, withdrawing, done, withMarks, markAt, marked, markOf, marking, binding, stateOf}
+use Rattle.order.specs.Event.{Event, began, faulted}
+use Rattle.order.specs.Expression.{conflictingReceive, Value, fault, value, evaluate, isTrue}
+use Rattle.order.specs.Begin.{Begun, beginInTurn, beginAfter, part, beginPart, cleared, quiet}
 use Rattle.order.specs.declared.Way.{Way as Result}
 use Rattle.order.specs.declared.Way.the-variants.{Running as running, Over as over, Raising as raising, Leaving as leaving, Undone as undone, UndoRaising as undoRaising}
-use Rattle.order.specs.Scope.{Outcome, rootOf, runs, after, begunIn, whereOver, Scope, scopeAt, isOpen, innerRuns, closing, ends, turns, stop, faults, breaks, looksAgain, bodyOver, bodyRaised, undoOver, undoRaised, fromBody, partOver, partRaised, fromFault, fromUndo}
-use Rattle.order.specs.Acting.{finishes, raises, orRaises, enters, again, repeats, allBound, itself, isPart, arms, goesOn, joins, inScope, combines, stepIn, stepAmong, stepRoot, Actor, replaces, performs}
+use Rattle.order.specs.Scope.{Outcome, runs, after, begunIn, whereOver, Scope, scopeAt, isOpen, innerRuns, closing, ends, turns, stop, faults, breaks, looksAgain, bodyOver, bodyRaised, undoOver, undoRaised, fromBody, partOver, partRaised, fromFault}
+use Rattle.order.specs.Acting.{finishes, raises, orRaises, again, repeats, itself, isPart, arms, goesOn, joins, combines, stepIn, stepAmong, Actor, replaces, performs}
 use Rattle.undoing.specs.Orderly.{isBeganOf}
 use Rattle.undoing.specs.Begun.{lasts, hasBegan}
 use Rattle.undoing.specs.Entirely.{times}
 use Rattle.undoing.proofs.Causing.{caused, chosenMark, faults-is}
-use Rattle.undoing.proofs.Parts.{both, decide}
+use Rattle.undoing.proofs.Parts.{decide}
 use Rattle.undoing.proofs.Orders.{least}
 use Rattle.undoing.proofs.Places.{first-of, second-of}
 use Rattle.undoing.proofs.Seats.{marking-length}
-use Rattle.undoing.proofs.Truly.{Up, Arms, needs, Knows, knows, KnowsIn, knows-none, knows-more}
-use Rattle.undoing.proofs.Lasting.{isRaising, KnowsEach, Halts, stop-halts}
+use Rattle.undoing.proofs.Truly.{Arms, needs, Knows, knows, KnowsIn, knows-none, knows-more}
+use Rattle.undoing.proofs.Lasting.{isRaising, KnowsEach}
 use Rattle.undoing.proofs.Keeping as keeping
-use Rattle.undoing.proofs.Entire.{times-append, times-event, Starts, Ranks, turn-starts, begin-starts}
-use Rattle.undoing.proofs.Entering.{Strict, StepsAt, step-at}
-use Rattle.undoing.proofs.Single.{Once, Light, once-none, light-none, light-once, once-light, once-event, Onto, after-onto, part-onto, Lone, turns-lone, undone-lone, looks-lone, turns-none, looks-none, looks-still, Stops, stop-stops, lone-zero, lone-begun, lone-where, once-apart, isOver}
+use Rattle.undoing.proofs.Entire.{times-append, turn-starts}
+use Rattle.undoing.proofs.Entering.{step-at}
+use Rattle.undoing.proofs.Single.{Once, Light, light-none, light-once, once-light, once-event, after-onto, part-onto, Lone, turns-lone, undone-lone, looks-lone, turns-none, stop-stops, lone-zero, lone-begun, lone-where, once-apart}
+use Rattle.undoing.proofs.Sends.{by-send}
 
 -- none has begun, as the other test has it
 pub none-times : (j : ℕ) (l : List Event) → hasBegan j l ≡ false → times j l ≡ 0
@@ -150,7 +151,7 @@ module _ (f : ℕ → ℕ) where
   pub itself-lone : (own : Own) (within : Acts) (q₀ k : ℕ) (o : Order) → needs own ≤ count within → KnowsIn f within (k + 1) → Lone f (itself own within q₀ k o)
   unfolding itself needs least kind times isBeganOf closing repeats
   itself-lone empty within q₀ k o n y = lone-zero f (runs o) (λ j. refl)
-  itself-lone (send a b vs) within q₀ k o n y = decide (allBound o vs) (λ e. rw e (lone-zero f (finishes k o) (λ j. refl))) (λ e. rw e (lone-zero f (raises unboundVariable k o) (λ j. refl)))
+  itself-lone (send a b vs) within q₀ k o n y = by-send (Lone f) a b vs within q₀ k o (lone-zero f (finishes k o) (λ j. refl)) (λ x. lone-zero f (raises x k o) (λ j. refl))
   itself-lone (receive a b vs) within q₀ k o n y = lone-zero f (finishes k o) (λ j. refl)
   itself-lone (setting v e) within q₀ k o n y = or-lone k o _ (evaluate e o) (λ i. lone-zero f (finishes k (binding v i o)) (λ j. refl))
   itself-lone (raise number) within q₀ k o n y = lone-zero f (raises number k o) (λ j. refl)

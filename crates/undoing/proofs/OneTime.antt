@@ -64,7 +64,7 @@ owns-awaited p h ms t (in-body e w) a = rw (ownsAt, lt-ltb t (size (p .body)) e)
 owns-awaited p h ms t (in-fault e w) a = rw (ownsAt, le-ltb t (size (p .body)) e) (owns-self (fault-knows p h) w a)
 
 -- how the body of an order that stands stands
-standing-shape : (p : Plan) (o : Order) → Standing p o → Shape (o .marks) (p .body) 0
+pub standing-shape : (p : Plan) (o : Order) → Standing p o → Shape (o .marks) (p .body) 0
 standing-shape p o st = go (st .runs)
   where
     go : Running (rootOf p) (o .marks) (o .root) → Shape (o .marks) (p .body) 0

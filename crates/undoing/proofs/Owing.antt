@@ -10,12 +10,12 @@ use Rattle.plan.specs.Tree.{Own, empty, send, receive, set as setting, raise, l
 use Rattle.order.specs.declared.Order.{Order}
 use Rattle.order.specs.Lists.{some}
 use Rattle.order.specs.State.{Name, active, inside, withMarks, closings, binding, markAt, marked}
-use Rattle.order.specs.Expression.{unboundVariable, Value, fault, value, evaluate, isTrue}
+use Rattle.order.specs.Expression.{Value, fault, value, evaluate, isTrue}
 use Rattle.order.specs.Begin.{beginAfter, beginPart, part, partAt, cleared, quiet}
 use Rattle.order.specs.declared.Way.{Way as Result}
 use Rattle.order.specs.declared.Way.the-variants.{Running as running, Over as over, Raising as raising, Leaving as leaving, Undone as undone, UndoRaising as undoRaising}
 use Rattle.order.specs.Scope.{Outcome, runs, after, begunIn, whereOver}
-use Rattle.order.specs.Acting.{allBound, finishes, raises, orRaises, again, repeats, itself, goesOn, joins, combines, arms, isPart, itsOwn, stepIn, stepAmong}
+use Rattle.order.specs.Acting.{finishes, orRaises, again, repeats, itself, goesOn, joins, combines, arms, isPart, itsOwn, stepIn, stepAmong}
 use Rattle.undoing.specs.Ties.{Place}
 use Rattle.undoing.proofs.Parts.{both, decide, some-append}
 use Rattle.undoing.proofs.Marks.{Quiet, Run, run-awaits, run-one, run-all, run-body, run-done, run-turned, All, all-run, all-quiet, Stopped, stopped-part, stopped-quiet, stopped-scope, StoppedIn, stopped-more, quiet-part}
@@ -26,6 +26,7 @@ use Rattle.undoing.proofs.Stepping.{among-is}
 use Rattle.undoing.proofs.Healing.{healers-none, undo-all, undo-turned}
 use Rattle.undoing.proofs.Sure.{leftIn, left-quiet}
 use Rattle.undoing.proofs.Lessening.{own-is, one-each}
+use Rattle.undoing.proofs.Sends.{by-send}
 
 -- A step in a tree without scopes leaves what is remembered.
 
@@ -68,11 +69,7 @@ closings-repeats k within o =
 closings-itself : (own : Own) (within : Acts) (y₀ k : ℕ) (o : Order) → isScope own ≡ false → closings (itself own within y₀ k o .order) ≡ closings o
 unfolding itself kind
 closings-itself empty within y₀ k o s = refl
-closings-itself (send x y vs) within y₀ k o s = go (allBound o vs)
-  where
-    go : (b : Bool) → closings (cond b (finishes k o) (raises unboundVariable k o) .order) ≡ closings o
-    go true = refl
-    go false = refl
+closings-itself (send x y vs) within y₀ k o s = by-send (λ r. closings (r .order) ≡ closings o) x y vs within y₀ k o refl (λ n. refl)
 closings-itself (receive x y vs) within y₀ k o s = refl
 closings-itself (setting v x) within y₀ k o s = closings-raises k o (λ n. finishes k (binding v n o)) (evaluate x o) (λ n. refl)
 closings-itself (raise zero) within y₀ k o s = refl

@@ -7,7 +7,7 @@ use mathlib.Core.List.{List, [], _∷_, _++_}
 use lib.ListN.{length, getD}
 use lib.Dec.{eqb, ltb}
 use borrow.Author.Tests.{eqb-true}
-use Rattle.plan.specs.Tree.{Own, empty, send, receive, set as setting, raise, leave, choose, repeat, sequence, flow, pick, scope, arm, kind, isScope, Act, act, Acts, none, more, Plan, size, sizes, count, generalPart, undoPart}
+use Rattle.plan.specs.Tree.{Own, empty, send, receive, set as setting, raise, leave, choose, repeat, sequence, flow, pick, scope, arm, kind, isScope, Act, act, Acts, none, more, Plan, size, sizes, count, generalPart, undoPart, toPartner, toHeld, fromPartner, fromAsking}
 use Rattle.order.specs.declared.Order.{Order}
 use Rattle.order.specs.Lists.{some}
 use Rattle.order.specs.State.{Name, inner, idle, active, done, halted, markAt, markOf, marking}
@@ -138,8 +138,10 @@ module _ (f : ℕ → ℕ) where
   doer-lasts : (own : Own) → isDoer own ≡ true → lasts (kind own) ≡ true
   unfolding isDoer lasts kind
   doer-lasts empty e = absurd (false≢true e)
-  doer-lasts (send p o vs) e = refl
-  doer-lasts (receive p o vs) e = refl
+  doer-lasts (send (toPartner p) o vs) e = refl
+  doer-lasts (send (toHeld held reply) o vs) e = refl
+  doer-lasts (receive (fromPartner p) o vs) e = refl
+  doer-lasts (receive (fromAsking p kept) o vs) e = refl
   doer-lasts (setting v x) e = refl
   doer-lasts (raise zero) e = refl
   doer-lasts (raise (suc number)) e = refl
@@ -256,8 +258,10 @@ module _ (p : Plan) (actor : Actor) (f : ℕ → ℕ) (t : ℕ) (o : Order) wher
       → Onward within k (stepIn actor (act own within) y₀ k t o)
   unfolding kind size isDoer
   seq-claim empty within y₀ k x h w c q e = absurd (false≢true e)
-  seq-claim (send a b vs) within y₀ k x h w c q e = absurd (false≢true e)
-  seq-claim (receive a b vs) within y₀ k x h w c q e = absurd (false≢true e)
+  seq-claim (send (toPartner a) b vs) within y₀ k x h w c q e = absurd (false≢true e)
+  seq-claim (send (toHeld held reply) b vs) within y₀ k x h w c q e = absurd (false≢true e)
+  seq-claim (receive (fromPartner a) b vs) within y₀ k x h w c q e = absurd (false≢true e)
+  seq-claim (receive (fromAsking a kept) b vs) within y₀ k x h w c q e = absurd (false≢true e)
   seq-claim (setting v z) within y₀ k x h w c q e = absurd (false≢true e)
   seq-claim (raise zero) within y₀ k x h w c q e = absurd (false≢true e)
   seq-claim (raise (suc number)) within y₀ k x h w c q e = absurd (false≢true e)

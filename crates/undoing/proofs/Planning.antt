@@ -6,9 +6,9 @@ use mathlib.Core.Bool.{Bool, true, false, not, _&&_, _||_, false≢true, or-fals
 use mathlib.Core.List.{List, [], _∷_, _++_, append-nil}
 use lib.ListN.{length}
 use lib.Dec.{eqb, ltb, leb}
-use borrow.Author.Tests.{eqb-true, eq-eqb, ne-eqb, not-true, ltb-true, ltb-false, lt-ltb, le-ltb, leb-true}
+use borrow.Author.Tests.{eqb-true, eq-eqb, ne-eqb, not-true, lt-ltb, le-ltb, leb-true}
 use Rattle.plan.specs.Read.{laterOf}
-use Rattle.plan.specs.Tree.{Own, empty, send, receive, set as setting, raise, leave, choose, repeat, sequence, flow, pick, scope, arm, kind, isArm, isPick, isScope, numbersOf, generalPart, Act, act, Acts, none, more, Plan, size, sizes, count, hasUndo}
+use Rattle.plan.specs.Tree.{Own, empty, send, receive, set as setting, raise, leave, choose, repeat, sequence, flow, pick, scope, arm, kind, isArm, isPick, isScope, numbersOf, generalPart, Act, act, Acts, none, more, Plan, size, sizes, count, hasUndo, toPartner, toHeld, fromPartner, fromAsking}
 use Rattle.plan.specs.Found.{among}
 use Rattle.plan.specs.Spell.{spelling}
 use Rattle.plan.specs.Within.{from1, scopeParts, numbersWithin, ownWithin, actWithin, actsWithin, levelsBelow, ascending, planWithin}
@@ -45,8 +45,10 @@ mutual
 own-formed : (vars : ℕ) (cs : List ℕ) (h r : Bool) (own : Own) (n : ℕ) → ownWithin vars cs h r own n ≡ true → isScope own ≡ false → (isArm own ≡ r) × (least own ≤ n)
 unfolding ownWithin kind least
 own-formed vars cs h r empty n e s = (sym (not-true r (both (not r) _ e (λ x y. x))), omega arith)
-own-formed vars cs h r (send x y vs) n e s = (sym (not-true r (both (not r) _ e (λ x y. x))), omega arith)
-own-formed vars cs h r (receive x y vs) n e s = (sym (not-true r (both (not r) _ e (λ x y. x))), omega arith)
+own-formed vars cs h r (send (toPartner x) y vs) n e s = (sym (not-true r (both (not r) _ e (λ x y. x))), omega arith)
+own-formed vars cs h r (send (toHeld held reply) y vs) n e s = (sym (not-true r (both (not r) _ e (λ x y. x))), omega arith)
+own-formed vars cs h r (receive (fromPartner x) y vs) n e s = (sym (not-true r (both (not r) _ e (λ x y. x))), omega arith)
+own-formed vars cs h r (receive (fromAsking x kept) y vs) n e s = (sym (not-true r (both (not r) _ e (λ x y. x))), omega arith)
 own-formed vars cs h r (setting v x) n e s = (sym (not-true r (both (not r) _ e (λ x y. x))), omega arith)
 own-formed vars cs h r (raise zero) n e s = (sym (not-true r (both (not r) _ e (λ x y. x))), omega arith)
 own-formed vars cs h r (raise (suc number)) n e s = (sym (not-true r (both (not r) _ e (λ x y. x))), omega arith)

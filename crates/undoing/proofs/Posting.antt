@@ -1,8 +1,8 @@
 -- What post does to the letters. Assumes nothing.
-use Prim.Native.Nat.{ℕ, zero, suc, _+_, _≤_, _<_}
+use Prim.Native.Nat.{ℕ, zero, suc, _+_, _<_}
 use native.Mathlib.Omega.{arith}
-use mathlib.Core.Path.{_≡_, refl, sym, ap, subst, _∙_}
-use mathlib.Core.Bool.{Bool, true, false, cond, not, false≢true}
+use mathlib.Core.Path.{_≡_, refl, sym, ap, subst}
+use mathlib.Core.Bool.{true, false, false≢true}
 use mathlib.Core.List.{List, [], _∷_, _++_}
 use lib.ListN.{length, set, take}
 use lib.Dec.{eqb, leb}
@@ -42,7 +42,7 @@ module _ (m : Message) (s : State) where
   unfolding postBy
   by-plan n (refused i j) = λ e. absurd (omega arith)
   by-plan n (found p i) =
-      decide (exchanged (m .partner) (m .operation) (m .count))
+      decide (exchanged (m .partner) (m .operation) (m .count) (m .reply))
       (λ a. decide (leb 64 (s .waiting)) (λ b. rw (a, b) (λ e. absurd (omega arith))) (λ b. rw (a, b) (λ e. added n b)))
       (λ a. rw a (λ e. absurd (omega arith)))
 
@@ -50,7 +50,7 @@ module _ (m : Message) (s : State) where
   unfolding postBy
   by-refusal (refused i j) = λ e. refl
   by-refusal (found p i) =
-      decide (exchanged (m .partner) (m .operation) (m .count))
+      decide (exchanged (m .partner) (m .operation) (m .count) (m .reply))
       (λ a. decide (leb 64 (s .waiting)) (λ b. rw (a, b) (λ e. refl)) (λ b. rw (a, b) (λ e. absurd (false≢true (sym e)))))
       (λ a. rw a (λ e. refl))
 

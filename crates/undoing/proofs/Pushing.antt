@@ -10,12 +10,12 @@ use Rattle.plan.specs.Tree.{Own, empty, send, receive, set as setting, raise, l
 use Rattle.order.specs.declared.Order.{Order}
 use Rattle.order.specs.Lists.{every, some, only, each}
 use Rattle.order.specs.State.{Name, root, inner, same}
-use Rattle.order.specs.Expression.{unboundVariable, conflictingReceive, Value, fault, value, evaluate}
+use Rattle.order.specs.Expression.{conflictingReceive, Value, fault, value, evaluate}
 use Rattle.order.specs.Event.{Event, started, began, closed, faulted, stopped, ended, raised, left}
 use Rattle.order.specs.Scope.{rootOf}
-use Rattle.order.specs.Acting.{allBound, Actor, itsOwn, inPlace, stepIn}
+use Rattle.order.specs.Acting.{Actor, itsOwn, inPlace, stepIn}
 use Rattle.undoing.specs.Demand3.{Inner, scopesOf, insideOf, isBegin, closedBy, closingsOf}
-use Rattle.undoing.specs.Ties.{Place, nameOf, isDeed, raisedIf, raisedBy, deedOf, deedIn, deedAmong}
+use Rattle.undoing.specs.Ties.{Place, nameOf, beyondOf, isDeed, raisedIf, raisedBy, deedOf, deedIn, deedAmong}
 use Rattle.undoing.specs.Answered.{backIn, backAmong, backOf, isClose, putting}
 use Rattle.undoing.proofs.Parts.{both, decide, every-so, some-none}
 use Rattle.undoing.proofs.Accounts.{Known}
@@ -28,6 +28,7 @@ use Rattle.undoing.proofs.Deeds.{step-deeds, raise-deeds}
 use Rattle.undoing.proofs.Judged.{isTake, Fitting, doing-body}
 use Rattle.undoing.proofs.Ending.{isStart, start-kept, deed-in-starts}
 use Rattle.undoing.proofs.Repaying.{none-directly, later-directly, direct-scope, back-part, back-first, back-later, back-without, out-directly, out-directly-in, dueIn, duesOf}
+use Rattle.undoing.proofs.Sends.{by-sent}
 
 -- the definition, by where the step is
 deed-is : (own : Own) (within : Acts) (k t : ℕ) (o : Order) (b : Bool) → eqb k t ≡ b → deedIn (act own within) k t o ≡ elim b [ true ↦ deedOf own k o | false ↦ deedAmong within (k + 1) t o ]
@@ -62,28 +63,30 @@ mutual
       (λ i. let j = later-directly a l c t d i in deed-among-is a l c t o false (le-ltb t (c + size a) (directly-range-in l (c + size a) t j .0)) ∙ close-deeds l (c + size a) t o y j)
 
 -- a number of a tree that no scope directly in it has
-abbrev Apart : Act → (k e : ℕ) → Bool
+abbrev pub Apart : Act → (k e : ℕ) → Bool
 Apart a k e = not (directly a k e) && (leb k e && ltb e (k + size a))
 
 abbrev ApartIn : Acts → (c e : ℕ) → Bool
 ApartIn l c e = not (directlyIn l c e) && (leb c e && ltb e (c + sizes l))
 
 -- A scope directly in a tree, as the plan has it; where it has no undo part nothing takes it back, and what closed in it stands nowhere directly in the tree.
-record CloseAt (p : Plan) (n : Name) (back : List ℕ) (apart : ℕ → Bool) (t : ℕ) : Type 0 where
-  its : Inner
-  known : Known p its
-  number : its .number ≡ t
-  around : its .around ≡ n
-  none-back : its .undoes ≡ false → back ≡ []
-  handed : its .undoes ≡ false → (past : List Event) → every apart (closingsOf p (inner t) past) ≡ true
+pub record CloseAt (p : Plan) (n : Name) (ns : List Name) (back : List ℕ) (apart : ℕ → Bool) (t : ℕ) : Type 0 where
+  pub its : Inner
+  pub known : Known p its
+  pub number : its .number ≡ t
+  pub around : its .around ≡ n
+  pub beyond : its .beyond ≡ ns
+  pub none-back : its .undoes ≡ false → back ≡ []
+  pub handed : its .undoes ≡ false → (past : List Event) → every apart (closingsOf p (inner t) past) ≡ true
 
-close-so : {p : Plan} {n : Name} {back back′ : List ℕ} {f g : ℕ → Bool} {t : ℕ} → CloseAt p n back f t → back′ ≡ back → ((e : ℕ) → f e ≡ true → g e ≡ true) → CloseAt p n back′ g t
+close-so : {p : Plan} {n : Name} {ns : List Name} {back back′ : List ℕ} {f g : ℕ → Bool} {t : ℕ} → CloseAt p n ns back f t → back′ ≡ back → ((e : ℕ) → f e ≡ true → g e ≡ true) → CloseAt p n ns back′ g t
 close-so {p} {f = f} {g} {t} w e h =
     record {
       its = w .its;
       known = w .known;
       number = w .number;
       around = w .around;
+      beyond = w .beyond;
       none-back = λ u. e ∙ w .none-back u;
       handed = λ u past. every-so f g h (closingsOf p (inner t) past) (w .handed u past);
     }
@@ -121,21 +124,22 @@ rest-back {z = true} h b k e = absurd (false≢true (sym e))
 rest-back {z = false} h b k e = back-without h b k k (eq-eqb k k refl)
 
 mutual
-  close-at : {p : Plan} {x : Place} {a : Act} {k : ℕ} → Sits p x a k → (t : ℕ) → directly a k t ≡ true → CloseAt p (nameOf x) (backIn a k t) (Apart a k) t
+  pub close-at : {p : Plan} {x : Place} {a : Act} {k : ℕ} → Sits p x a k → (t : ℕ) → directly a k t ≡ true → CloseAt p (nameOf x) (beyondOf x) (backIn a k t) (Apart a k) t
   close-at (sits-part {own = own} {within} {k} s g v y l) t d =
       close-so (close-at-in l t (sym (directly-is own within k t false s) ∙ d)) (back-part own within k t s) (λ e. part-apart own within k e s)
   close-at {p = p} (sits-scope {xs} {v = z₀} {n} {c} {ns} {b} {f} {u} {k} kn v i sb z) t d =
-      subst (λ (j : ℕ). CloseAt p n (backIn (act (scope xs z₀) (trio b f u)) k j) (Apart (act (scope xs z₀) (trio b f u)) k) j) (eqb-true k t (direct-scope xs z₀ (trio b f u) k t d))
+      subst (λ (j : ℕ). CloseAt p n ns (backIn (act (scope xs z₀) (trio b f u)) k j) (Apart (act (scope xs z₀) (trio b f u)) k) j) (eqb-true k t (direct-scope xs z₀ (trio b f u) k t d))
       (record {
         its = innerAt xs z₀ k n ns (trio b f u);
         known = kn;
         number = refl;
         around = refl;
+        beyond = refl;
         none-back = λ e. rest-back z b k e;
         handed = λ e past. every-so (reaches b (k + 1)) (Apart (act (scope xs z₀) (trio b f u)) k) (λ j h. scope-apart xs z₀ b f u k j h) (closingsOf p (inner k) past) (closings-reach p past sb i);
       })
 
-  close-at-in : {p : Plan} {x : Place} {l : Acts} {c : ℕ} → SitsIn p x l c → (t : ℕ) → directlyIn l c t ≡ true → CloseAt p (nameOf x) (backAmong l c t) (ApartIn l c) t
+  close-at-in : {p : Plan} {x : Place} {l : Acts} {c : ℕ} → SitsIn p x l c → (t : ℕ) → directlyIn l c t ≡ true → CloseAt p (nameOf x) (beyondOf x) (backAmong l c t) (ApartIn l c) t
   close-at-in (sits-none {c = c}) t d = absurd (none-directly c t d)
   close-at-in (sits-more {a = a} {l} {c} s y) t d =
       decide (directly a c t)
@@ -169,7 +173,7 @@ module _ (p : Plan) (h : Seat p (rootOf p)) where
       ap (λ (l : List ℕ). duesIn (l ++ c)) (found w) ∙ (by-undo w d (w .its .undoes) refl ∙ rw e))
       (λ e. rw (e, some-none (λ x. eqb (x .number) k) (insideOf p root) e))
     where
-      found : (w : CloseAt p root (backIn (p .body) 0 k) (Apart (p .body) 0) k)
+      found : (w : CloseAt p root (h .beyond) (backIn (p .body) 0 k) (Apart (p .body) 0) k)
           → closedBy (insideOf p root) (λ j. closingsOf p (inner j) past) (closed k) ≡ cond (w .its .undoes) (k ∷ []) (closingsOf p (inner k) past)
       found w =
           closed-inside p root (λ j. closingsOf p (inner j) past) k
@@ -177,7 +181,7 @@ module _ (p : Plan) (h : Seat p (rootOf p)) where
           (ap (λ (j : ℕ). only (λ x. eqb (x .number) j) (scopesOf p)) (sym (w .number)) ∙ w .known .byNumber)
           ∙ rw (w .around, w .number, append-nil))
 
-      by-undo : (w : CloseAt p root (backIn (p .body) 0 k) (Apart (p .body) 0) k) → directly (p .body) 0 k ≡ true → (b : Bool) → w .its .undoes ≡ b
+      by-undo : (w : CloseAt p root (h .beyond) (backIn (p .body) 0 k) (Apart (p .body) 0) k) → directly (p .body) 0 k ≡ true → (b : Bool) → w .its .undoes ≡ b
           → duesIn (cond (w .its .undoes) (k ∷ []) (closingsOf p (inner k) past) ++ c) ≡ putting (backIn (p .body) 0 k) (duesIn c)
       by-undo w d true u = rw (u, d)
       by-undo w d false u = rw (u, w .none-back u) (apart-dues (p .body) 0 (closingsOf p (inner k) past) c (w .handed u past))
@@ -212,11 +216,6 @@ module _ (p : Plan) (h : Seat p (rootOf p)) where
   onto-dues (left ∷ l) past h = onto-dues l (left ∷ past) h ∙ ap (duesOnto (only isDeed l)) (next-dues left past refl)
 
   -- a step that closes nothing directly inside
-  if-raised : (k x : ℕ) (d : List (List ℕ)) (b : Bool) → duesOnto (raisedIf k x b) d ≡ d
-  unfolding duesOnto
-  if-raised k x d true = refl
-  if-raised k x d false = refl
-
   by-raised : (k : ℕ) (d : List (List ℕ)) (v : Value) → duesOnto (raisedBy k v) d ≡ d
   unfolding duesOnto
   by-raised k d (fault x) = refl
@@ -237,7 +236,7 @@ module _ (p : Plan) (h : Seat p (rootOf p)) where
   other-own : (own : Own) (k : ℕ) (o : Order) (d : List (List ℕ)) → isClose p root k ≡ false → duesOnto (deedOf own k o) d ≡ d
   unfolding deedOf duesOnto
   other-own empty k o d e = refl
-  other-own (send x y vs) k o d e = if-raised k unboundVariable d (not (allBound o vs))
+  other-own (send x y vs) k o d e = by-sent (λ l. duesOnto l d ≡ d) x y vs k o refl (λ n. nothing-closed k n d)
   other-own (receive x y vs) k o d e = refl
   other-own (setting v x) k o d e = by-raised k d (evaluate x o)
   other-own (raise number) k o d e = nothing-closed k number d

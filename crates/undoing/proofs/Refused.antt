@@ -22,7 +22,7 @@ use Rattle.undoing.specs.Weighing.{weighing}
 use Rattle.undoing.specs.History.{history}
 use Rattle.undoing.specs.Ties.{orderAfter, deedAt, deedsTaken, endList, endsTaken, causeAnswered, causesTaken}
 use Rattle.undoing.specs.Begun.{hasBegan, markBefore, Taken, stepsTaken}
-use Rattle.undoing.specs.UndoneRight.{Named, demand3, orderly, faults, steps, ends, causes, begunTruly, begunAll, begunInTurn, once, afresh, entirely, leftToFinish, keptRunning, passedOn, decided, itsStep, ownSteps, marks, choices, lists, places, goingOn, neverStuck, stoppedWithin, toCome, standing, broken}
+use Rattle.undoing.specs.UndoneRight.{Named, demand3, orderly, faults, steps, ends, causes, begunTruly, begunAll, begunInTurn, once, afresh, entirely, leftToFinish, leftAlone, keptRunning, passedOn, decided, itsStep, ownSteps, marks, choices, lists, places, goingOn, neverStuck, stoppedWithin, toCome, standing, broken}
 
 -- What an engine does: a step of an activity, with what the order becomes, what it logs and what it answers, its end and the number of its fault; or something that happens to the slot while another
 -- slot has its step, or with a post.
@@ -61,7 +61,7 @@ verdict x =
 
 -- the message that starts each order, and the first choice
 abbrev first : Call
-first = posting (record { partner = 0; operation = 0; count = 1; values = 5 ∷ 0 ∷ 0 ∷ 0 ∷ [] })
+first = posting (record { partner = 0; operation = 0; count = 1; values = 5 ∷ 0 ∷ 0 ∷ 0 ∷ []; reply = 0 })
 
 abbrev next : Call
 next = stepping 0
@@ -189,6 +189,11 @@ handedOnce = 1 ∷ 2 ∷ 0 ∷ 8 ∷ 4 ∷ 2 ∷ 0 ∷ 0 ∷ 1 ∷ 0 ∷ 3 ∷ 1
 -- a receive 12) and a choose 13 (a raise 14 the second time); a set 17.
 unfoldable anew : List ℕ
 anew = 1 ∷ 2 ∷ 0 ∷ 8 ∷ 3 ∷ 2 ∷ 0 ∷ 0 ∷ 1 ∷ 0 ∷ 3 ∷ 1 ∷ 0 ∷ 0 ∷ 7 ∷ 5 ∷ 1 ∷ 1 ∷ 0 ∷ 3 ∷ 8 ∷ 2 ∷ 12 ∷ 8 ∷ 2 ∷ 11 ∷ 0 ∷ 0 ∷ 9 ∷ 2 ∷ 4 ∷ 2 ∷ 1 ∷ 1 ∷ 1 ∷ 0 ∷ 6 ∷ 5 ∷ 0 ∷ 0 ∷ 1 ∷ 1 ∷ 4 ∷ 0 ∷ 0 ∷ 3 ∷ 1 ∷ 2 ∷ 1 ∷ 1 ∷ 0 ∷ 1 ∷ 0 ∷ []
+
+-- A receive 1; a flow 2 of a scope 3 of code 12, whose body is a sequence 4 of a scope 5 (undo part 8, a flow of two sends, 9 and 10) and a raise 11, and a
+-- sequence 13 of a send 14 and a raise 15; the root's fault part 16, a send.
+unfoldable leftUndoing : List ℕ
+leftUndoing = 1 ∷ 1 ∷ 0 ∷ 8 ∷ 2 ∷ 2 ∷ 0 ∷ 0 ∷ 1 ∷ 0 ∷ 9 ∷ 2 ∷ 12 ∷ 8 ∷ 2 ∷ 11 ∷ 0 ∷ 0 ∷ 9 ∷ 2 ∷ 1 ∷ 2 ∷ 1 ∷ 1 ∷ 0 ∷ 1 ∷ 2 ∷ 2 ∷ 1 ∷ 0 ∷ 4 ∷ 0 ∷ 8 ∷ 2 ∷ 1 ∷ 2 ∷ 4 ∷ 1 ∷ 0 ∷ 4 ∷ 1 ∷ 2 ∷ 3 ∷ 1 ∷ 0 ∷ []
 
 -- Faults with a number.
 
@@ -657,6 +662,22 @@ dropsBranch = record {
   deeds = does 6 (only1 (faultedBy 0 handling) 9) (began 9 ∷ []) None 0 ∷ [];
 }
 
+-- a raise beside a scope that undoes drops one of the two sends that take back what closed in it
+unfoldable dropsLeft : Engine
+dropsLeft = record {
+  bytes = leftUndoing;
+  calls = first ∷ next ∷ next ∷ next ∷ stepping 2 ∷ [];
+  deeds = does 15 (λ o. withRoot (faultedBy 0 faulty) (marked 0 idle (marked 2 idle (marked 13 idle (marked 15 idle (marked 10 idle o)))))) (raised 15 0 ∷ faulted root 0 ∷ []) None 0 ∷ [];
+}
+
+-- the same step as it should be
+unfoldable leavesAlone : Engine
+leavesAlone = record {
+  bytes = leftUndoing;
+  calls = first ∷ next ∷ next ∷ next ∷ stepping 2 ∷ [];
+  deeds = does 15 (λ o. withRoot (faultedBy 0 faulty) (marked 0 idle (marked 2 idle (marked 13 idle (marked 15 idle o))))) (raised 15 0 ∷ faulted root 0 ∷ []) None 0 ∷ [];
+}
+
 -- of an undo part that is a sequence both sends begin at once
 unfoldable asFlow : Engine
 asFlow = record {
@@ -1107,6 +1128,11 @@ refused : map verdict engines
     ∷ []
 unfolding engines planC three innerHandler handledScope closedOuter neverEntered inSequence inFlow beside hung unstopped unbegun waiting nested raisingUndo oneSend lone twice startFlow ending skipsUndo scopeless hanging leaving sending unasked faultFirst turnedAbout unsaid newest oldest twiceOver other oncePer lastLogged tooEarly unfaulted leftRunning remembersHandled unraised undoesHandled closesHandled keepsList oneMore oneMoreSaid untold claimsAll claimsOther claimsSequence claimsThrice claimsBeside otherSlot hangs runsOn drops bodiless closesEarly endsMidway halfFlow claimsSend oldList waitsForEver claimsStopped fakesBeginning swallows dropsStopped claimsOne bothAtOnce inOpenBody anotherThanTold dropsTail dropsBranch asFlow againAndAgain cutsShort startsHalf leavesRepeat otherPart choosesNone first-of judge verdict computing judging weighing
 refused = refl
+
+-- a step beside a scope that undoes: one that drops something in it, and one that leaves it alone
+refusedLeft : map verdict (dropsLeft ∷ leavesAlone ∷ []) ≡ (leftAlone ∷ []) ∷ [] ∷ []
+unfolding leftUndoing dropsLeft leavesAlone first-of judge verdict computing judging weighing
+refusedLeft = refl
 
 -- the engines of request 13, and what each breaks
 handers : List Engine

@@ -14,17 +14,17 @@ use Rattle.order.specs.declared.End.{End}
 use Rattle.order.specs.declared.End.the-variants.{None, Well, Handled, Failed, Left}
 use Rattle.order.specs.Lists.{only, withoutLast}
 use Rattle.order.specs.State.{Name, root, inner, closings, remembering, idle, inside, binding, marked, markOf, marking, markAt, withMarks, faulty, halted, active, undoing, withdrawing, handling, done, causing, stateOf, going, markWith, stateIn, choiceOf}
-use Rattle.order.specs.Expression.{unboundVariable, conflictingReceive, Value, fault, value, evaluate, isTrue}
+use Rattle.order.specs.Expression.{conflictingReceive, Value, fault, value, evaluate, isTrue}
 use Rattle.order.specs.Event.{Event, started, began, closed, faulted, stopped, ended, raised, left}
 use Rattle.order.specs.Begin.{Begun, begin, beginAfter, beginPart, part, partAt, quiet, cleared}
 use Rattle.order.specs.declared.Way.{Way as Result}
 use Rattle.order.specs.declared.Way.the-variants.{Running as running, Over as over, Raising as raising, Leaving as leaving, Undone as undone, UndoRaising as undoRaising}
 use Rattle.order.specs.Scope.{Outcome, runs, after, begunIn, whereOver, Scope, scopeAt, rootOf, isOpen, innerRuns, closing, beginUndo, startUndo, undo, ends, handle, undoes, turns, stop, faults, breaks, looksAgain, bodyOver, bodyRaised, undoOver, undoRaised, fromBody, partOver, partRaised, fromFault, fromUndo, rememberedFor, forgetting, isFor, goesThrough, choiceFor, chosenPart, chosenAt}
-use Rattle.order.specs.Acting.{finishes, raises, orRaises, enters, again, repeats, allBound, itself, isPart, arms, goesOn, joins, inScope, combines, stepIn, stepAmong, stepRoot, endOf, faultOf as faultNumber, movedTo, begunOrder, Actor, replaces, performs, acted}
+use Rattle.order.specs.Acting.{finishes, raises, orRaises, enters, again, repeats, itself, isPart, arms, goesOn, joins, inScope, combines, stepIn, stepAmong, stepRoot, endOf, faultOf as faultNumber, movedTo, begunOrder, Actor, replaces, performs, acted}
 use Rattle.undoing.specs.Ties.{isName, fits, Place, bodyOf, faultOf, undoOf, nameOf, placeIn, placeAmong, placeOf, beyondOf, lastOf, firstOf, beyondIn, lastIn, runAt, seen, placeParts}
 use Rattle.undoing.proofs.Parts.{decide, both as both-true}
 use Rattle.undoing.proofs.Choices.{general-is, general-suc}
-use Rattle.undoing.proofs.Orders.{bare, bareIn, Sits, sits-part, sits-scope, SitsIn, sits-none, sits-more, Remedy, remedy, remedy-bare, Healers, heals-by, heals-all, Rest, rest-undo, rest-none}
+use Rattle.undoing.proofs.Orders.{bare, bareIn, Sits, sits-part, sits-scope, SitsIn, sits-none, sits-more, Remedy, remedy, Healers, heals-by, heals-all, Rest, rest-undo, rest-none}
 use Rattle.undoing.proofs.Seats.{Seat}
 use Rattle.undoing.proofs.Moves.{Before}
 use Rattle.undoing.proofs.Breaking.{cleared-kept}
@@ -32,6 +32,7 @@ use Rattle.undoing.proofs.Stepping.{scope-performs}
 use Rattle.undoing.proofs.Places.{first-of, second-of, parts, place-here, place-within, place-scope, place-first, place-later, parts-first, parts-later}
 use Rattle.undoing.proofs.Landing.{Landed, landed, beyond, lands, lands-count, lands-before, lands-after, at-from, lands-step, lands-fault, lands-undo, beyond-after, beyond-step}
 use Rattle.undoing.proofs.Aside.{Aside, silent-append, begin-silent, after-silent, part-silent, runs-silent, begin-undo-silent, ends-silent, stop-silent}
+use Rattle.undoing.proofs.Sends.{by-send}
 
 -- a raise or a fault
 unfoldable pub isGrave : Event → Bool
@@ -258,7 +259,7 @@ module _ (p : Plan) (t : ℕ) (φ : Name → Bool) (b : Bool) (q : Place) (k : �
   out-itself : (own : Own) (within : Acts) (q₀ : ℕ) → isScope own ≡ false → k ≡ t → placeOf p t ≡ q → Out p t φ b q k o (itself own within q₀ k o)
   unfolding itself kind only isGrave
   out-itself empty within q₀ s e l = out-mild (runs o) (mild-runs o)
-  out-itself (send x op vs) within q₀ s e l = decide (allBound o vs) (λ d. rw d (out-mild (finishes k o) (mild-finishes k o))) (λ d. rw d (out-raises unboundVariable e l))
+  out-itself (send x op vs) within q₀ s e l = by-send (Out p t φ b q k o) x op vs within q₀ k o (out-mild (finishes k o) (mild-finishes k o)) (λ n. out-raises n e l)
   out-itself (receive x op vs) within q₀ s e l = out-mild (finishes k o) (mild-finishes k o)
   out-itself (setting v x) within q₀ s e l = out-or e l (λ n. finishes k (binding v n o)) (evaluate x o) (λ n. mild-finishes k (binding v n o))
   out-itself (raise number) within q₀ s e l = out-raises number e l

@@ -8,7 +8,7 @@ use mathlib.Core.List.{List, [], _∷_, _++_}
 use lib.ListN.{getD}
 use lib.Dec.{eqb, ltb}
 use borrow.Author.Tests.{eqb-true, eqb-false, eq-eqb, ltb-true, ltb-false}
-use Rattle.plan.specs.Tree.{Own, empty, send, receive, set as setting, raise, leave, choose, repeat, sequence, flow, pick, scope, arm, kind, isScope, Act, act, Acts, none, more, size, sizes}
+use Rattle.plan.specs.Tree.{Own, empty, send, receive, set as setting, raise, leave, choose, repeat, sequence, flow, pick, scope, arm, kind, isScope, Act, act, Acts, none, more, size, sizes, toPartner, toHeld, fromPartner, fromAsking}
 use Rattle.order.specs.Lists.{some}
 use Rattle.order.specs.State.{idle, active}
 use Rattle.order.specs.Event.{Event}
@@ -90,8 +90,10 @@ among-range l c s h = (
 sure-acts : (own : Own) → isSure own ≡ true → (acts (kind own) ≡ true) × (eqb (kind own) 7 ≡ false)
 unfolding isSure acts kind
 sure-acts empty s = absurd (false≢true s)
-sure-acts (send x y vs) s = (refl, refl)
-sure-acts (receive x y vs) s = (refl, refl)
+sure-acts (send (toPartner x) y vs) s = (refl, refl)
+sure-acts (send (toHeld held reply) y vs) s = (refl, refl)
+sure-acts (receive (fromPartner x) y vs) s = (refl, refl)
+sure-acts (receive (fromAsking x kept) y vs) s = (refl, refl)
 sure-acts (setting v x) s = (refl, refl)
 sure-acts (raise zero) s = (refl, refl)
 sure-acts (raise (suc number)) s = (refl, refl)

@@ -10,24 +10,24 @@ use lib.Dec.{eqb, ltb, leb}
 use borrow.Author.Tests.{eqb-true, ltb-true, ltb-false}
 use Rattle.plan.specs.Found.{Found, refused, found, among}
 use Rattle.plan.specs.Read.{readPlan}
-use Rattle.plan.specs.Tree.{Plan, size, none, more, sizes}
+use Rattle.plan.specs.Tree.{Plan, size, none, more, sizes, fromPartner, fromAsking}
 use Rattle.machine.specs.declared.Message.{Message}
 use Rattle.order.specs.declared.Order.{Order}
 use Rattle.machine.specs.declared.State.{State}
 use Rattle.order.specs.Lists.{every, only}
-use Rattle.order.specs.State.{Name, root, inner, idle, active, halted, withdrawing, withRoot, binding, choiceIn, markOf, isLive, noOrder}
+use Rattle.order.specs.State.{Name, root, inner, idle, active, withRoot, binding, choiceIn, markOf, isLive, noOrder}
 use Rattle.machine.specs.State.{noMessage, fresh, letters}
 use Rattle.order.specs.Expression.{isFaultNumber}
 use Rattle.machine.specs.Limits.{exchanged, rootInLimits, markInLimits, orderInLimits, inLimits, planIn, by}
 use Rattle.order.specs.Event.{Event, started}
 use Rattle.order.specs.Begin.{begin}
 use Rattle.order.specs.Scope.{rootOf}
-use Rattle.order.specs.Acting.{allBound, Actor, itsOwn, Moved, acted, begunOrder, startedOrder}
+use Rattle.order.specs.Acting.{Actor, itsOwn, Moved, acted, begunOrder, startedOrder, maySend}
 use Rattle.order.specs.Judging.{following, spare, settled, stepOrder}
 use Rattle.order.specs.declared.End.the-variants.{None}
 use Rattle.machine.specs.Fit.{Doing, noStep, sends, takes, moves, cuts, closes}
 use Rattle.order.specs.Taking.{bindAll}
-use Rattle.machine.specs.Calls.{postBy, post, partnersOf, foreign, handing, collectBy, collect, dropAt, messagesAfter, orderTaking}
+use Rattle.machine.specs.Calls.{postBy, post, partnersOf, foreign, handing, collectBy, collect, dropAt, messagesAfter, orderTaking, gives}
 use Rattle.undoing.specs.Demand3.{noneNow}
 use Rattle.undoing.proofs.Parts.{both, decide}
 use Rattle.undoing.proofs.Accounts.{Phase, rest, waits, heals, phase}
@@ -37,7 +37,7 @@ use Rattle.undoing.proofs.Orders.{momentOf, fairAfter, onto, does-nothi
 use Rattle.undoing.proofs.Beginning.{Begins, begins}
 use Rattle.undoing.proofs.Waiting.{quiet-waits}
 use Rattle.undoing.proofs.Scoping.{scope-live, scope-done, scope-turned, Running}
-use Rattle.undoing.proofs.Roots.{Awaited, in-body, in-fault, Standing, Passed, passes-on, passes-end, ended-now, order-steps}
+use Rattle.undoing.proofs.Roots.{Awaited, in-body, in-fault, Standing, Passed, passes-on, passes-end, ended-now}
 use Rattle.undoing.proofs.Planning.{Promised}
 use Rattle.undoing.proofs.Judged.{Fitting, passed-joined, passed-once, judged-so}
 
@@ -82,12 +82,17 @@ bound-alike p (v ∷ vs) xs o =
     same-mark root = refl
     same-mark (inner k) = refl
 
+alike-then : {p : Plan} {o o′ o″ : Order} → Alike p o o′ → Alike p o′ o″ → Alike p o o″
+alike-then a b =
+    record { marks = b .marks ∙ a .marks; root = b .root ∙ a .root; everywhere = λ s i. let x = a .everywhere s i in let y = b .everywhere s i in (y .0 ∙ x .0, y .1 ∙ x .1, y .2 ∙ x .2) }
+
 -- taking a message, by the step that it is for
 pub taking-alike : (p : Plan) (d : Doing) (m : Message) (o : Order) → Alike p o (orderTaking d m o)
-unfolding orderTaking
+unfolding orderTaking bindAll
 taking-alike p noStep m o = alike-itself p o
 taking-alike p (sends a b vs) m o = alike-itself p o
-taking-alike p (takes a b vs) m o = bound-alike p vs (m .values) o
+taking-alike p (takes (fromPartner a) b vs) m o = bound-alike p vs (gives m) o
+taking-alike p (takes (fromAsking a v) b vs) m o = alike-then (bound-alike p vs (gives m) o) (bound-alike p (v ∷ []) (getD (gives m) 4 0 ∷ []) (bindAll vs (gives m) o))
 taking-alike p moves m o = alike-itself p o
 taking-alike p cuts m o = alike-itself p o
 taking-alike p (closes undo s) m o = alike-itself p o
@@ -190,7 +195,7 @@ same-itself s = record { plan = refl; long = refl; orders = refl }
 pub messages-same : (d : Doing) (j : ℕ) (o : Order) (s : State) → Same s (messagesAfter d j o s)
 unfolding messagesAfter
 messages-same noStep j o s = same-itself s
-messages-same (sends a b vs) j o s = decide (allBound o vs) (λ t. rw t (record { plan = refl; long = refl; orders = refl })) (λ t. rw t (same-itself s))
+messages-same (sends a b vs) j o s = decide (maySend o a vs) (λ t. rw t (record { plan = refl; long = refl; orders = refl })) (λ t. rw t (same-itself s))
 messages-same (takes a b vs) j o s = record { plan = refl; long = refl; orders = refl }
 messages-same moves j o s = same-itself s
 messages-same cuts j o s = same-itself s
@@ -204,7 +209,7 @@ post-same m s = go (planIn s)
     go : (f : Found Plan) → Same s (by (record { refusal = 17; state = s }) (λ p. postBy p m s) f .state)
     go (refused n k) = same-itself s
     go (found p n) =
-        decide (not (exchanged (m .partner) (m .operation) (m .count)))
+        decide (not (exchanged (m .partner) (m .operation) (m .count) (m .reply)))
         (λ t. rw t (same-itself s))
         (λ t. decide (leb 64 (s .waiting)) (λ u. rw (t, u) (same-itself s)) (λ u. rw (t, u) (record { plan = refl; long = refl; orders = refl })))
 

@@ -2,11 +2,11 @@
 use Prim.Native.Nat.{ℕ, zero, suc, _+_, _≤_, _<_}
 use native.Mathlib.Omega.{arith}
 use mathlib.Core.Path.{_≡_, refl, sym, ap, subst, _∙_}
-use mathlib.Core.Bool.{Bool, true, false, _&&_, _||_, false≢true, or-true, cond, not, and-false}
+use mathlib.Core.Bool.{Bool, true, false, _||_, false≢true, or-true, cond, not, and-false}
 use mathlib.Core.List.{List, [], _∷_, _++_, reverse, reverse-append, append-nil, map}
 use lib.ListN.{length, getD, length-set}
 use lib.Seq.{getD-set-same, getD-set-other}
-use lib.Dec.{eqb, ltb, leb}
+use lib.Dec.{eqb, ltb}
 use borrow.Author.Tests.{eqb-true, eqb-false, eq-eqb, ne-eqb, ltb-true, ltb-false, lt-ltb, le-ltb, le-leb}
 use Rattle.plan.specs.Tree.{Own, empty, send, receive, set as setting, raise, leave, choose, repeat, sequence, flow, pick, scope, arm, kind, isArm, isPick, isScope, generalPart, undoPart, Act, act, Acts, none, more, Plan, size, sizes, count}
 use Rattle.order.specs.declared.Closing.{Closing}
@@ -19,11 +19,10 @@ use Rattle.order.specs.Event.{Event, raised}
 use Rattle.order.specs.Begin.{part, partAt, beginPart}
 use Rattle.order.specs.declared.Way.{Way as Result}
 use Rattle.order.specs.declared.Way.the-variants.{Running as running, Over as over, Raising as raising, Leaving as leaving, Undone as undone, UndoRaising as undoRaising}
-use Rattle.order.specs.Scope.{Outcome, runs, begunIn, Scope, scopeAt, forgetting, closing, innerRuns, innerRunsIn, fromBody, fromFault, fromUndo, adds, goesThrough, isFor, rememberedFor}
+use Rattle.order.specs.Scope.{Outcome, runs, begunIn, Scope, scopeAt, forgetting, closing, innerRuns, innerRunsIn, fromBody, fromFault, fromUndo, adds, goesThrough, rememberedFor}
 use Rattle.order.specs.Scope.{listOf as closingsFor}
 use Rattle.order.specs.Acting.{raises, itself, Actor, itsOwn, inPlace, replaces, performs, inScope, combines, arms, isPart, stepIn, stepAmong}
 use Rattle.machine.specs.Fit.{awaits}
-use Rattle.undoing.specs.Demand3.{Inner, inUndoPart}
 use Rattle.undoing.specs.Ties.{isName, Place, bodyOf, undoOf, nameOf, faultOf, beyondOf, lastOf, bodyOfName}
 use Rattle.undoing.specs.Standing.{choiceOn}
 use Rattle.undoing.proofs.Parts.{both, decide, only-append, same-swap, map-append}
@@ -168,7 +167,7 @@ parts-nth actor (suc i) (more a l) y₀ c t o n h e =
     parts-is actor a l y₀ c t o false (le-ltb t (c + size a) (omega (arith, part-from i l (c + size a)))) ∙ parts-nth actor i l y₀ (c + size a) t o (omega arith) h e
 
 -- A raise stands only in the place of a receive or an arm: any other acts itself.
-pub plain-performs : (actor : Actor) (own : Own) (within : Acts) (y₀ k : ℕ) (o : Order) → (eqb (kind own) 2 || eqb (kind own) 255) ≡ false
+pub plain-performs : (actor : Actor) (own : Own) (within : Acts) (y₀ k : ℕ) (o : Order) → (eqb (kind own) 2 || (eqb (kind own) 18 || eqb (kind own) 255)) ≡ false
     → performs actor own within y₀ k o ≡ itself own within y₀ k o
 unfolding performs replaces
 plain-performs itsOwn own within y₀ k o e = refl

@@ -7,7 +7,7 @@ use mathlib.Core.List.{List}
 use lib.ListN.{getD}
 use lib.Dec.{eqb}
 use borrow.Author.Tests.{eq-eqb, ne-eqb}
-use Rattle.plan.specs.Tree.{Own, empty, send, receive, set as setting, raise, leave, choose, repeat, sequence, flow, pick, scope, arm, kind, isScope, hasUndo, numbersOf, Act, act, Acts, none, more, Plan, size, sizes, count}
+use Rattle.plan.specs.Tree.{Own, empty, send, receive, set as setting, raise, leave, choose, repeat, sequence, flow, pick, scope, arm, kind, isScope, hasUndo, numbersOf, Act, act, Acts, none, more, Plan, size, sizes, count, toPartner, toHeld, fromPartner, fromAsking}
 use Rattle.order.specs.declared.Order.{Order}
 use Rattle.order.specs.Event.{Event}
 use Rattle.order.specs.State.{idle, active, done, faulty, undoing, handling, halted, withdrawing, stateIn, isLive}
@@ -28,8 +28,10 @@ use Rattle.undoing.proofs.Told.{slot-after}
 doing : (own : Own) → isDoer own ≡ true → isDoing (kind own) ≡ true
 unfolding isDoer isDoing kind
 doing empty e = absurd (false≢true e)
-doing (send p o vs) e = refl
-doing (receive p o vs) e = refl
+doing (send (toPartner p) o vs) e = refl
+doing (send (toHeld held reply) o vs) e = refl
+doing (receive (fromPartner p) o vs) e = refl
+doing (receive (fromAsking p kept) o vs) e = refl
 doing (setting v x) e = refl
 doing (raise zero) e = refl
 doing (raise (suc number)) e = refl
@@ -45,8 +47,10 @@ doing (arm p o vs) e = absurd (false≢true e)
 holds-so : (own : Own) → isScope own ≡ false → holdingOf (kind own) ≡ holding own
 unfolding holdingOf kind
 holds-so empty s = refl
-holds-so (send p o vs) s = refl
-holds-so (receive p o vs) s = refl
+holds-so (send (toPartner p) o vs) s = refl
+holds-so (send (toHeld held reply) o vs) s = refl
+holds-so (receive (fromPartner p) o vs) s = refl
+holds-so (receive (fromAsking p kept) o vs) s = refl
 holds-so (setting v x) s = refl
 holds-so (raise zero) s = refl
 holds-so (raise (suc number)) s = refl

@@ -28,7 +28,7 @@ use Rattle.machine.specs.Calls.{loaded, trimmed, post, partnersOf, collect, dro
 use Rattle.undoing.specs.Demand3.{Inner, scopesOf}
 use Rattle.undoing.specs.Ties.{Always, orderAfter, isTurned, isTaken, isStep, Place, bodyOf, faultOf, undoOf, placeOf}
 use Rattle.undoing.specs.Orderly.{isBeganOf}
-use Rattle.undoing.specs.Begun.{kindAt, lasts, hasBegan, Taken, markBefore, isMarked, numbers, stepsTaken}
+use Rattle.undoing.specs.Begun.{kindAt, lasts, hasBegan, Taken, markBefore, isMarked, numbers, ofEach, stepsTaken}
 
 -- What holds of every step taken and of every activity, also of the step that ends the order.
 abbrev pub ofAll : (Plan → Taken → (activity : ℕ) → Bool) → Plan → Taken → Bool
@@ -253,3 +253,18 @@ unfoldable pub LeftToFinish : Type 0
 LeftToFinish =
     (bytes : List ℕ) (p : Plan) (next : ℕ) → readPlan bytes ≡ found p next → (calls : List Call) (slot : ℕ) (t : Tally) →
     every (λ x. every (isLocal x) (scopesOf p)) (stepsTaken p calls slot (loaded bytes) t) ≡ true
+
+-- LEFT ALONE. "an inner scope already faulted, undoing or handling is left to finish": where it was so, and the step does not stand in it, each mark in it is
+-- as it was, while the order runs on. (LEFT TO FINISH says that nothing begins there; this, that nothing is dropped.)
+abbrev pub isIn : Inner → (activity : ℕ) → Bool
+isIn y k = leb (y .number) k && ltb k (beyondAll y)
+
+unfoldable pub isLeftAlone : Plan → Taken → Inner → Bool
+isLeftAlone p x y =
+    (not (isTurned (markBefore (y .number) x)) || isIn y (x .activity))
+    || ofEach (λ p x k. not (isIn y k) || eqb (markAt k (x .after)) (markAt k (x .before))) p x
+
+unfoldable pub LeftAlone : Type 0
+LeftAlone =
+    (bytes : List ℕ) (p : Plan) (next : ℕ) → readPlan bytes ≡ found p next → (calls : List Call) (slot : ℕ) (t : Tally) →
+    every (λ x. every (isLeftAlone p x) (scopesOf p)) (stepsTaken p calls slot (loaded bytes) t) ≡ true

@@ -13,3 +13,4 @@ pub mod Answered
 pub mod Standing
 pub mod Onward
 pub mod AnyScope
+pub mod LatestFirst

@@ -8,7 +8,7 @@ use lib.ListN.{getD}
 use lib.Dec.{leb, ltb, eqb}
 use Rattle.plan.specs.Found.{found}
 use Rattle.plan.specs.Read.{readPlan}
-use Rattle.plan.specs.Tree.{Own, empty, send, receive, set as setting, raise, leave, choose, repeat, sequence, flow, pick, scope, arm, isScope, hasUndo, numbersOf, generalPart, undoPart, Act, act, Acts, none, more, Plan, size}
+use Rattle.plan.specs.Tree.{heldBy, Own, empty, send, receive, set as setting, raise, leave, choose, repeat, sequence, flow, pick, scope, arm, isScope, hasUndo, numbersOf, generalPart, undoPart, Act, act, Acts, none, more, Plan, size}
 use Rattle.order.specs.declared.Order.{Order}
 use Rattle.order.specs.declared.End.{End}
 use Rattle.order.specs.declared.End.the-variants.{None, Well, Handled, Failed, Left}
@@ -16,11 +16,11 @@ use Rattle.machine.specs.declared.State.{State}
 use Rattle.machine.specs.declared.Tally.{Tally}
 use Rattle.order.specs.Lists.{every, some, only, each}
 use Rattle.order.specs.State.{idle, faulty, undoing, handling, halted, withdrawing, Name, root, inner, same, closings, stateIn, choiceIn, markOf, stateOf, isLive, noOrder}
-use Rattle.order.specs.Expression.{unboundVariable, conflictingReceive, Value, fault as faulting, value, evaluate}
+use Rattle.order.specs.Expression.{unboundVariable, conflictingReceive, noSuchPartner, Value, fault as faulting, value, evaluate}
 use Rattle.order.specs.Event.{Event, started, began, closed, faulted, stopped, ended, raised, left}
 use Rattle.order.specs.Begin.{part, partAt, quiet}
 use Rattle.order.specs.Scope.{Scope, chosenPart, chosenAt, scopeAt, rootOf, isOpen, innerRuns}
-use Rattle.order.specs.Acting.{allBound, itsOwn, inPlace, Moved, acted, startedOrder}
+use Rattle.order.specs.Acting.{allBound, reaches, itsOwn, inPlace, Moved, acted, startedOrder}
 use Rattle.order.specs.Awaited.{Ready}
 use Rattle.order.specs.Judging.{isThing, Verdict, clear, clash, conflict, spare}
 use Rattle.machine.specs.Fit.{Doing, noStep, sends, takes, moves, cuts, closes, readyOf}
@@ -118,7 +118,7 @@ raisedBy k (value n) = []
 -- what the step of activity k is in the history, by what the activity says of itself and by the order that has the step
 unfoldable pub deedOf : Own → (k : ℕ) → Order → List Event
 deedOf empty k o = []
-deedOf (send p op vs) k o = raisedIf k unboundVariable (not (allBound o vs))
+deedOf (send to op vs) k o = cond (allBound o (heldBy to ++ vs)) (raisedIf k noSuchPartner (not (reaches o to))) (raised k unboundVariable ∷ [])
 deedOf (receive p op vs) k o = []
 deedOf (setting v e) k o = raisedBy k (evaluate e o)
 deedOf (raise n) k o = raised k n ∷ []

@@ -23,7 +23,7 @@ use Rattle.undoing.specs.Demand3.{scopesOf, closingsOf, undoneOf, hasTur
 use Rattle.undoing.specs.Ties.{orderAfter, isTurned, remembered, isDeed, deedsTaken, placeNow, heedsAfter, endsIn, endsTaken, causesIn, causesTaken, fits, isStep, movesOn, goIn}
 use Rattle.undoing.specs.Orderly.{isChoice, isCause, orderlyAfter}
 use Rattle.undoing.specs.Begun.{Taken, isMarked, hasBegun, isLed, ofEach, stepsTaken}
-use Rattle.undoing.specs.Entirely.{ofAll, isOnce, isAfresh, isEntire, isLocal, isAwaited, chained, isStopped, allGoOn}
+use Rattle.undoing.specs.Entirely.{ofAll, isOnce, isAfresh, isEntire, isLocal, isLeftAlone, isAwaited, chained, isStopped, allGoOn}
 use Rattle.undoing.specs.Standing.{stands}
 use Rattle.undoing.specs.Onward.{isKept, isPassed, isDecided}
 
@@ -55,6 +55,8 @@ pub data Named : Type 0 where
   entirely : Named
   -- nothing begins in a scope in which the step does not stand, unless it begins or is stopped
   leftToFinish : Named
+  -- in a scope that had turned, and in which the step does not stand, every mark is as it was
+  leftAlone : Named
   -- what runs and has not the step in it runs on
   keptRunning : Named
   -- a sequence that has the step in it runs on, or has begun all that follows in it
@@ -154,6 +156,7 @@ broken p ds es xs ts o l =
     ++ (unless (every (ofAll isAfresh p) ts) afresh
     ++ (unless (every (ofAll isEntire p) ts) entirely
     ++ (unless (every (λ x. every (isLocal x) (scopesOf p)) ts) leftToFinish
+    ++ (unless (every (λ x. every (isLeftAlone p x) (scopesOf p)) ts) leftAlone
     ++ (unless (every (ofAll isKept p) ts) keptRunning
     ++ (unless (every (isPassed p) ts) passedOn
     ++ (unless (every (isDecided p) ts) decided
@@ -171,7 +174,7 @@ broken p ds es xs ts o l =
     ++ (unless (every (isStopped o) (scopesOf p)) stoppedWithin
     ++ (unless (allGoOn p o) toCome
     ++ unless (stands p o) standing)))))))))
-    []))))))))))))))))))
+    [])))))))))))))))))))
 
 -- For every accepted plan, every run of posts, collects and choices from a fresh start, and every slot, the history of the slot breaks none.
 unfoldable pub UndoneRight : Type 0

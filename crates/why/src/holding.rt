@@ -13,9 +13,10 @@ pub(crate) fn is_held(
 ) -> bool {
     let marks = order.marks;
     let bound = order.bound;
+    let values = order.values;
     let parts = sight::memory::parts_of(order);
     let known = [0u64; 16];
-    let letters = [0u32; 448];
+    let letters = [0u32; 512];
     let least = [0usize; 64];
     let cutting = sight::rows::cut_rows(table, &marks, activities);
     let s = sight::one::row_sight(
@@ -24,6 +25,7 @@ pub(crate) fn is_held(
         &marks,
         &known,
         &bound,
+        &values,
         &parts,
         order.kept,
         0,

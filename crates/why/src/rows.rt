@@ -17,7 +17,10 @@ use plan::table::Table;
 use sayings::has_faulted;
 use sayings::put_by_fault;
 use sayings::put_scope_faulted;
+use telling::SENDS;
+use telling::fault_of;
 use telling::put_known;
+use telling::put_sending_fault;
 use telling::put_sent;
 
 fn mark_at(marks: &[u8; 256], n: usize) -> u8 {
@@ -56,7 +59,7 @@ fn put_open(
     put_near(out, at, names, table, n, &asked, messages, state.waiting)
 }
 
-// A send that awaits its step: it may be held while 64 messages wait, and is a fault where a variable is not bound.
+// A send that awaits its step: it may be held while 64 messages wait, and is a fault where a variable is not bound, or holds a partner that there is not.
 fn put_send(
     out: &mut [u8; 4096],
     used: usize,
@@ -75,10 +78,12 @@ fn put_send(
     if held {
         return put(out, at, b": held, since 64 messages wait\n");
     }
-    if activity::all_bound(table, n, order) {
-        return put_byte(out, at, 10);
+    let cause = fault_of(table, n, &bound, &values);
+    if cause != SENDS {
+        at = put(out, at, b": it will fault");
+        at = put_sending_fault(out, at, names, cause);
     }
-    put(out, at, b": it will fault\n")
+    put_byte(out, at, 10)
 }
 
 // Row k and its rival, by their numbers.
@@ -200,8 +205,17 @@ fn put_active(
     order: Order,
 ) -> usize {
     match entry(table, n, KIND) {
-        kind::SEND => put_send(out, used, names, table, flags, n, held, order),
-        kind::RECEIVE => put_open(out, used, names, table, flags, n, state, order),
+        kind::SEND | kind::HELD_SEND => put_send(out, used, names, table, flags, n, held, order),
+        kind::RECEIVE | kind::ASKING_RECEIVE => put_open(
+            out,
+            used,
+            names,
+            table,
+            flags,
+            n,
+            state,
+            order,
+        ),
         kind::SET
         | kind::RAISE
         | kind::NUMBERED_RAISE

@@ -17,7 +17,7 @@ fn could_start(
     marks: &[u8; 256],
     known: &[u64; 16],
     activities: usize,
-    letters: &[u32; 448],
+    letters: &[u32; 512],
     j: usize,
 ) -> bool {
     let mut n = 0;
@@ -35,7 +35,7 @@ fn starts(
     flags: &[u8; 16],
     picks: &[usize; 256],
     activities: usize,
-    letters: &[u32; 448],
+    letters: &[u32; 512],
     j: usize,
 ) -> bool {
     let order = beginning::started_order(table);
@@ -51,7 +51,7 @@ fn taker_of(
     picks: &[usize; 256],
     activities: usize,
     orders: [Order; 16],
-    letters: &[u32; 448],
+    letters: &[u32; 512],
     j: usize,
 ) -> u32 {
     let r = fit::search::first_receiver(table, flags, picks, orders, activities, letters, j);
@@ -120,7 +120,7 @@ pub fn fate_of(
     picks: &[usize; 256],
     activities: usize,
     orders: [Order; 16],
-    letters: &[u32; 448],
+    letters: &[u32; 512],
     j: usize,
     m: Message,
 ) -> u32 {

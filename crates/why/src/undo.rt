@@ -27,6 +27,13 @@ fn put_whose(
     put(out, used, b" for the root")
 }
 
+fn is_send(table: &Table, n: usize) -> bool {
+    match entry(table, n, KIND) {
+        kind::SEND | kind::HELD_SEND => true,
+        _ => false,
+    }
+}
+
 // The send in row n, where it is one.
 fn put_one(
     out: &mut [u8; 4096],
@@ -37,7 +44,7 @@ fn put_one(
     n: usize,
     order: Order,
 ) -> usize {
-    if entry(table, n, KIND) != kind::SEND {
+    if !is_send(table, n) {
         return used;
     }
     let bound = order.bound;

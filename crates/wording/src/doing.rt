@@ -113,8 +113,8 @@ pub fn put_doing(out: &mut [u8; 4096], used: usize, column: bool, doing: usize) 
 // What has begun and is not over yet: its step, where it awaits one; else that something within it runs.
 fn active_of(kind: u32) -> usize {
     match kind {
-        kind::SEND => TO_SEND,
-        kind::RECEIVE | kind::PICK => WAITING,
+        kind::SEND | kind::HELD_SEND => TO_SEND,
+        kind::RECEIVE | kind::ASKING_RECEIVE | kind::PICK => WAITING,
         kind::SET => TO_SET,
         kind::RAISE | kind::NUMBERED_RAISE => TO_RAISE,
         kind::LEAVE => TO_LEAVE,

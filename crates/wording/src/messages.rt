@@ -3,6 +3,7 @@ use drawing::put;
 use drawing::put_byte;
 use drawing::put_next;
 use drawing::put_number;
+use drawing::put_partner;
 use machine::Message;
 use machine::State;
 
@@ -31,34 +32,60 @@ fn put_values(
     at
 }
 
-// Partner, operation, count and values, a blank in front of each.
+// Partner, operation, count, values and the partner to reply to, a blank in front of each.
 pub fn put_message(out: &mut [u8; 4096], used: usize, m: Message) -> usize {
     let values = m.values;
     let mut at = put_next(out, used, m.partner as u64);
     at = put_next(out, at, m.operation as u64);
     at = put_next(out, at, m.count as u64);
-    put_values(out, at, &values, m.count, b" ")
+    at = put_values(out, at, &values, m.count, b" ");
+    put_next(out, at, m.reply as u64)
+}
+
+// Whom to reply to, where the receive that takes the message stores it.
+fn put_reply(
+    out: &mut [u8; 4096],
+    used: usize,
+    names: &[u8; 16896],
+    storing: bool,
+    reply: u32,
+) -> usize {
+    if storing {
+        let at = put(out, used, b"; reply to ");
+        return put_partner(out, at, names, reply);
+    }
+    used
 }
 
 // A message in words. Its partner and operation are those of the receive that takes it.
-fn put_in_words(out: &mut [u8; 4096], used: usize, place: usize, m: Message) -> usize {
+fn put_in_words(
+    out: &mut [u8; 4096],
+    used: usize,
+    names: &[u8; 16896],
+    place: usize,
+    storing: bool,
+    m: Message,
+) -> usize {
     let values = m.values;
     let mut at = put(out, used, b"; takes message");
     at = put_next(out, at, place as u64);
     at = put(out, at, b", with");
-    put_values(out, at, &values, m.count, b" ")
+    at = put_values(out, at, &values, m.count, b" ");
+    put_reply(out, at, names, storing, m.reply)
 }
 
-// The message at a place in words.
+// The message at a place in words, and whether whom to reply to is stored.
 pub(crate) fn put_taken(
     out: &mut [u8; 4096],
     used: usize,
+    names: &[u8; 16896],
     messages: [Message; 64],
     place: usize,
+    storing: bool,
 ) -> usize {
     if place < 64 {
         let m = messages[place];
-        return put_in_words(out, used, place, m);
+        return put_in_words(out, used, names, place, storing, m);
     }
     used
 }

@@ -142,12 +142,14 @@ fn put_what(
 fn put_which(
     out: &mut [u8; 4096],
     used: usize,
+    names: &[u8; 16896],
     kind: u32,
     messages: [Message; 64],
     place: usize,
 ) -> usize {
     match kind {
-        kind::RECEIVE | kind::ARM => put_taken(out, used, messages, place),
+        kind::RECEIVE | kind::ARM => put_taken(out, used, names, messages, place, false),
+        kind::ASKING_RECEIVE => put_taken(out, used, names, messages, place, true),
         _ => used,
     }
 }
@@ -170,7 +172,7 @@ fn put_choice(
     at = put(out, at, b"  ");
     at = put_whose(out, at, orders, slot_of(x));
     at = put_what(out, at, names, table, flags, n);
-    at = put_which(out, at, entry(table, n, 0), messages, place_of(x));
+    at = put_which(out, at, names, entry(table, n, KIND), messages, place_of(x));
     put_byte(out, at, 10)
 }
 

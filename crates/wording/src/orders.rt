@@ -38,13 +38,7 @@ fn put_root(out: &mut [u8; 4096], used: usize, root: u8) -> usize {
 }
 
 // The fault that the root faulted with, where it has faulted: its mark is then neither free nor running.
-fn put_cause(
-    out: &mut [u8; 4096],
-    used: usize,
-    names: &[u8; 16896],
-    root: u8,
-    cause: u8,
-) -> usize {
+fn put_cause(out: &mut [u8; 4096], used: usize, names: &[u8; 16896], root: u8, cause: u8) -> usize {
     if root < 2 {
         return used;
     }

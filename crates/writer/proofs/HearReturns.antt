@@ -39,21 +39,28 @@ use Rattle.writer.proofs.RowStands.{headRows, count-stands, number-stan
 use Rattle.writer.proofs.RowsAsk.{own-asked, span-rows, plan-asks}
 use Rattle.writer.proofs.TreeReturns.{act-no-own, act-no-within, acts-no-first, acts-no-rest, acts-got, said, inside, first-read, opened, scope-inside, scope-no-body, scope-no-count, scope-no-parts, body-read, count-opened, parts-got, parts-no-last, last-read, last-is, parts-no-number, parts-no-part, part-read, parts-opened}
 
+-- `is_receive`
+pub is-two : (k : ℕ) → k ≡ 2 → true ≡ (eqb k 2 || eqb k 18)
+is-two k e = rw e
+
+pub is-either : (k : ℕ) → (k ≡ 2 → ⊥) → eqb k 18 ≡ (eqb k 2 || eqb k 18)
+is-either k n = rw (ne-eqb k 2 n)
+
 -- `hear_row`
-module _ (t : List ℕ) (r : ℕ) {k : ℕ} (s : Noted) where
-  pub hears-receive : k ≡ 2 → {p o m : ℕ} {u : Noted} → u ≡ heard (asking p o m r) s → p ≡ cell t r 2 → o ≡ cell t r 3 → m ≡ cell t r 4
+module _ (t : List ℕ) (r k : ℕ) (s : Noted) where
+  pub hears-receive : {b : Bool} → b ≡ (eqb k 2 || eqb k 18) → b ≡ true → {p o m : ℕ} {u : Noted} → u ≡ heard (asking p o m r) s → p ≡ cell t r 2 → o ≡ cell t r 3 → m ≡ cell t r 4
       → u ≡ heardAll (rowAsks t r k) s
   unfolding heardAll rowAsks
-  hears-receive e h a b c = rw e (h ∙ rw (a, b, c))
+  hears-receive i e h a b c = rw (sym i ∙ e) (h ∙ rw (a, b, c))
 
   pub hears-arm : k ≡ 255 → {p o m : ℕ} {u : Noted} → u ≡ heard (asking p o m r) s → p ≡ cell t r 1 → o ≡ cell t r 2 → m ≡ cell t r 3
       → u ≡ heardAll (rowAsks t r k) s
   unfolding heardAll rowAsks
   hears-arm e h a b c = rw e (h ∙ rw (a, b, c))
 
-  pub hears-none : (k ≡ 2 → ⊥) → (k ≡ 255 → ⊥) → s ≡ heardAll (rowAsks t r k) s
+  pub hears-none : {b : Bool} → b ≡ (eqb k 2 || eqb k 18) → b ≡ false → (k ≡ 255 → ⊥) → s ≡ heardAll (rowAsks t r k) s
   unfolding heardAll rowAsks
-  hears-none n m = rw (ne-eqb k 2 n, ne-eqb k 255 m)
+  hears-none i e m = rw (sym i ∙ e, ne-eqb k 255 m)
 
 -- of what is refused nothing is to be heard
 act-silent : (n : ℕ) (g : Found Act) (r : ℕ) (s u : Noted) {number place : ℕ} → Out.Refused number place ≡ outFor n g → ActHears g r s u
@@ -155,7 +162,7 @@ node-there true vars cs t handler depth n r =
     finds-then (row-finds t r) (λ p next w.
     finds-cond (ltb p 64) (λ e.
     finds-cond (leb 256 n) (λ f. finds-refused) (λ f.
-    finds-cond (exchangeFits vars true t r 2) (λ g. finds-found (w .there)) (λ g. finds-refused)))
+    finds-cond (exchangeFits vars true t r 2 0) (λ g. finds-found (w .there)) (λ g. finds-refused)))
     (λ e. finds-refused))
 node-there false vars cs t handler depth n r =
     finds-then (code-finds t handler depth n r) (λ k next c.

@@ -21,17 +21,17 @@ use Rattle.writer.specs.Written.{fieldFor}
 use Rattle.writer.proofs.OwnReturns.{field-got, field-no, row-finds}
 
 -- `is_namable`
-pub namable-low : (x : ℕ) → x ≤ 4 → true ≡ namable x
+pub namable-low : (x : ℕ) → x ≤ 5 → true ≡ namable x
 unfolding namable
-namable-low x h = rw (le-leb x 4 h)
+namable-low x h = rw (le-leb x 5 h)
 
-pub namable-between : (x : ℕ) → 4 < x → x < 16 → false ≡ namable x
+pub namable-between : (x : ℕ) → 5 < x → x < 16 → false ≡ namable x
 unfolding namable
-namable-between x h l = rw (lt-leb x 4 h, lt-leb 16 x l)
+namable-between x h l = rw (lt-leb x 5 h, lt-leb 16 x l)
 
-pub namable-high : (x : ℕ) → 4 < x → 16 ≤ x → leb x 255 ≡ namable x
+pub namable-high : (x : ℕ) → 5 < x → 16 ≤ x → leb x 255 ≡ namable x
 unfolding namable
-namable-high x h l = rw (lt-leb x 4 h, le-leb 16 x l)
+namable-high x h l = rw (lt-leb x 5 h, le-leb 16 x l)
 
 -- The loop of `is_known`: none of the numbers from i on is x.
 pub record Seeking (x : ℕ) (numbers : List ℕ) (k i : ℕ) : Type 0 where

@@ -11,25 +11,26 @@ use lib.ListN.{length, getD, take, drop, length-append}
 use lib.Seq.{getD-take, getD-drop}
 use Rattle.plan.specs.Agree.{Asked, asking, askedOwn, spanOf, spanAll}
 use Rattle.plan.specs.Found.{Found, refused, found, andThen}
-use Rattle.plan.specs.Read.{Head, head, manyIn, laterOf, startForm}
+use Rattle.plan.specs.Read.{Head, head, isCode, manyIn, laterOf, startForm}
 use Rattle.plan.specs.Spell.{exchangeNumbers, gapsOf, gap, later}
-use Rattle.plan.specs.Tree.{Exp, Own, empty, send, receive, set, raise, leave, choose, repeat, sequence, flow, pick, scope, arm, kind, isPick, numbersOf, Act, act, Acts, none, more, Plan, size, count}
+use Rattle.plan.specs.Tree.{Exp, Own, empty, toPartner, toHeld, fromPartner, fromAsking, send, receive, set, raise, leave, choose, repeat, sequence, flow, pick, scope, arm, kind, isPick, numbersOf, Act, act, Acts, none, more, Plan, size, count}
 use Rattle.plan.specs.Within.{variablesWithin, from1}
 use Rattle.plan.proofs.Accepts.{both}
+use Rattle.plan.proofs.ByKind.{last-code}
 use Rattle.plan.proofs.Finds.{Finds, finds-refused, finds-itself, finds-found, finds-cond, finds-code, finds-then, finds-so, finds-both}
 use Rattle.plan.proofs.RowsAsked.{Exchanged, AsksOwn, Asks, AsksAll}
 use Rattle.writer.specs.Rows.{expressionRows, ownRows, alone, actRows, actsRows}
-use Rattle.writer.specs.Reading.{cell, tuple, expressionAt, exchangeFits, armAt, codeAt, partsFit, withExpression, partsAt, headAt, countAt, faultNumberAt, numberedAt, numberedScopeAt, wholeAt, armWith, readsAt, actAt, rootAt, headFits, planAt, inRows, rowAsks}
+use Rattle.writer.specs.Reading.{cell, tuple, expressionAt, exchangeFits, storesReply, armAt, codeAt, partsFit, withExpression, partsAt, headAt, countAt, faultNumberAt, numberedAt, numberedScopeAt, wholeAt, armWith, readsAt, actAt, rootAt, headFits, planAt, inRows, rowAsks}
 use Rattle.writer.proofs.Lines.{Row, Stands, nil, cons, tuple-long}
 use Rattle.writer.proofs.OwnReturns.{There, row-finds, Coded, code-finds}
 
 -- What is asked for is within the limits.
 
 -- an exchange whose places keep their rules
-exchange-asks : (vars : ℕ) (t : List ℕ) (r c p : ℕ) → r < length t / 20 → c ≤ 3 → p < 64 → exchangeFits vars true t r c ≡ true
+exchange-asks : (vars : ℕ) (t : List ℕ) (r c behind p : ℕ) → r < length t / 20 → c ≤ 3 → p < 64 → exchangeFits vars true t r c behind ≡ true
     → Exchanged p (cell t r c) (tuple t r (c + 1))
 unfolding exchangeFits
-exchange-asks vars t r c p there small h e =
+exchange-asks vars t r c behind p there small h e =
     both (ltb (cell t r c) 64) _ e (λ a e1. both (from1 4 (cell t r (c + 1))) _ e1 (λ b e2. both (leb 1 (cell t r (c + 1))) _ b (λ b1 b2.
     let m : cell t r (c + 1) ≤ 4 = leb-true _ _ b2 in
     let j : 1 ≤ cell t r (c + 1) = leb-true _ _ b1 in
@@ -40,32 +41,36 @@ with-asks : (vars : ℕ) (t : List ℕ) (own : Exp → Own) (within r : ℕ) →
 unfolding withExpression
 with-asks vars t own within r f = finds-then (finds-itself (expressionAt 8 vars t r)) (λ e next x. finds-found (f e))
 
-parts-ask : (vars : ℕ) (cs t : List ℕ) (r k next : ℕ) → r < length t / 20 → partsFit vars cs t r k ≡ true → Finds (λ h next. AsksOwn (h .own)) (partsAt vars t r k next)
+parts-ask : (vars : ℕ) (cs t : List ℕ) (r k next : ℕ) → r < length t / 20 → isCode k ≡ true → partsFit vars cs t r k ≡ true → Finds (λ h next. AsksOwn (h .own)) (partsAt vars t r k next)
 unfolding partsAt partsFit AsksOwn
-parts-ask vars cs t r k next there h =
-    finds-cond (eqb k 0) (λ e. finds-found tt) (λ e.
-    finds-cond (eqb k 1) (λ e. finds-found tt) (λ e.
-    finds-cond (eqb k 2) (λ e.
-    let g : (ltb (cell t r 2) 64 && exchangeFits vars true t r 3) ≡ true = rw (eqb-true k 2 e) at h in
-    finds-found (both (ltb (cell t r 2) 64) _ g (λ a b. exchange-asks vars t r 3 (cell t r 2) there (omega arith) (ltb-true _ _ a) b))) (λ e.
-    finds-cond (eqb k 3) (λ e. with-asks vars t (set (cell t r 2)) 0 next (λ x. tt)) (λ e.
-    finds-cond (eqb k 4) (λ e. finds-found tt) (λ e.
-    finds-cond (eqb k 5) (λ e. finds-found tt) (λ e.
-    finds-cond (eqb k 6) (λ e. with-asks vars t choose 2 next (λ x. tt)) (λ e.
-    finds-cond (eqb k 7) (λ e. with-asks vars t repeat 1 next (λ x. tt)) (λ e.
-    finds-cond (eqb k 8) (λ e. finds-found tt) (λ e.
-    finds-cond (eqb k 9) (λ e. finds-found tt) (λ e.
-    finds-cond (eqb k 10) (λ e. finds-found tt) (λ e.
-    finds-cond (eqb k 11) (λ e. finds-found tt) (λ e.
-    finds-cond (eqb k 12) (λ e. finds-found tt) (λ e.
-    finds-cond (eqb k 13) (λ e. finds-found tt) (λ e.
-    finds-found tt))))))))))))))
+parts-ask vars cs t r k next there i h =
+    finds-code k 0 (omega arith) (λ e. finds-found tt) (λ l.
+    finds-code k 1 l (λ e. finds-found tt) (λ l.
+    finds-code k 2 l (λ e.
+    let g : (ltb (cell t r 2) 64 && exchangeFits vars true t r 3 0) ≡ true = rw e at h in
+    finds-found (both (ltb (cell t r 2) 64) _ g (λ a b. exchange-asks vars t r 3 0 (cell t r 2) there (omega arith) (ltb-true _ _ a) b))) (λ l.
+    finds-code k 3 l (λ e. with-asks vars t (set (cell t r 2)) 0 next (λ x. tt)) (λ l.
+    finds-code k 4 l (λ e. finds-found tt) (λ l.
+    finds-code k 5 l (λ e. finds-found tt) (λ l.
+    finds-code k 6 l (λ e. with-asks vars t choose 2 next (λ x. tt)) (λ l.
+    finds-code k 7 l (λ e. with-asks vars t repeat 1 next (λ x. tt)) (λ l.
+    finds-code k 8 l (λ e. finds-found tt) (λ l.
+    finds-code k 9 l (λ e. finds-found tt) (λ l.
+    finds-code k 10 l (λ e. finds-found tt) (λ l.
+    finds-code k 11 l (λ e. finds-found tt) (λ l.
+    finds-code k 12 l (λ e. finds-found tt) (λ l.
+    finds-code k 13 l (λ e. finds-found tt) (λ l.
+    finds-code k 14 l (λ e. finds-found tt) (λ l.
+    finds-cond (eqb k 17) (λ e. finds-found tt) (λ e.
+    let g : (ltb (cell t r 2) 64 && (exchangeFits vars true t r 3 1 && storesReply vars cs t r)) ≡ true = rw (last-code k i l e) at h in
+    finds-found (both (ltb (cell t r 2) 64) _ g (λ a b. both (exchangeFits vars true t r 3 1) _ b (λ c d.
+    exchange-asks vars t r 3 1 (cell t r 2) there (omega arith) (ltb-true _ _ a) c)))))))))))))))))))
 
 head-asks : (vars : ℕ) (cs t : List ℕ) (handler : Bool) (depth n r : ℕ) → Finds (λ h next. AsksOwn (h .own)) (headAt vars cs t handler depth n r)
 unfolding headAt
 head-asks vars cs t handler depth n r =
     finds-then (code-finds t handler depth n r) (λ k next c.
-    finds-cond (partsFit vars cs t r k) (λ e. parts-ask vars cs t r k next (c .row .there) e) (λ e. finds-refused))
+    finds-cond (partsFit vars cs t r k) (λ e. parts-ask vars cs t r k next (c .row .there) (c .known) e) (λ e. finds-refused))
 
 arm-asks : (vars : ℕ) (t : List ℕ) (n r : ℕ) → Finds (λ h next. AsksOwn (h .own)) (armAt vars t n r)
 unfolding armAt AsksOwn
@@ -73,7 +78,7 @@ arm-asks vars t n r =
     finds-then (row-finds t r) (λ p next w.
     finds-cond (ltb p 64) (λ e.
     finds-cond (leb 256 n) (λ f. finds-refused) (λ f.
-    finds-cond (exchangeFits vars true t r 2) (λ g. finds-found (exchange-asks vars t r 2 p (w .there) (omega arith) (ltb-true _ _ e) g)) (λ g. finds-refused)))
+    finds-cond (exchangeFits vars true t r 2 0) (λ g. finds-found (exchange-asks vars t r 2 0 p (w .there) (omega arith) (ltb-true _ _ e) g)) (λ g. finds-refused)))
     (λ e. finds-refused))
 
 AskReads : (Bool → ℕ → ℕ → Found Act) → Type 0
@@ -144,9 +149,9 @@ row-cell {t} {r} {ns} w c h =
     let i : r * 20 + (c + 1) ≡ r * 20 + 1 + c = omega arith in
     rw i (sym (getD-drop (r * 20 + 1) t c 0) ∙ (sym (getD-take (length ns) (drop (r * 20 + 1) t) c 0 h) ∙ ap (λ l. getD l c 0) (w .is)))
 
-receive-row : {t : List ℕ} {r : ℕ} (p o : ℕ) (vs : List ℕ) → Row t r (2 ∷ p ∷ o ∷ length vs ∷ vs) → asking p o (length vs) (r + 0) ∷ [] ≡ rowAsks t r 2
+receive-row : {t : List ℕ} {r k : ℕ} (p o : ℕ) (vs l : List ℕ) → (eqb k 2 || eqb k 18) ≡ true → Row t r (k ∷ p ∷ o ∷ length vs ∷ l) → asking p o (length vs) (r + 0) ∷ [] ≡ rowAsks t r k
 unfolding rowAsks
-receive-row {t} {r} p o vs w = rw (row-cell w 1 (omega arith), row-cell w 2 (omega arith), row-cell w 3 (omega arith), add-zero r)
+receive-row {t} {r} p o vs l e w = rw (e, row-cell w 1 (omega arith), row-cell w 2 (omega arith), row-cell w 3 (omega arith), add-zero r)
 
 arm-row : {t : List ℕ} {r : ℕ} (p o : ℕ) (vs : List ℕ) → Row t r (p ∷ o ∷ length vs ∷ vs) → asking p o (length vs) (r + 0) ∷ [] ≡ rowAsks t r 255
 unfolding rowAsks
@@ -158,8 +163,10 @@ first-row (cons w x) = w
 pub own-asked : (t : List ℕ) (r : ℕ) (own : Own) (within : ℕ) {next : ℕ} → Stands t r (ownRows own within) next → askedOwn inRows own r ≡ rowAsks t r (kind own)
 unfolding askedOwn inRows ownRows exchangeNumbers kind rowAsks
 own-asked t r empty within x = refl
-own-asked t r (send p o vs) within x = refl
-own-asked t r (receive p o vs) within x = receive-row p o vs (first-row x)
+own-asked t r (send (toPartner p) o vs) within x = refl
+own-asked t r (send (toHeld v reply) o vs) within x = refl
+own-asked t r (receive (fromPartner p) o vs) within x = receive-row p o vs vs refl (first-row x)
+own-asked t r (receive (fromAsking p v) o vs) within x = receive-row p o vs (vs ++ (v ∷ [])) refl (first-row x)
 own-asked t r (set v e) within x = refl
 own-asked t r (raise zero) within x = refl
 own-asked t r (raise (suc n)) within x = refl

@@ -17,7 +17,7 @@ ghost use Rattle.writer.specs.Written.{fieldFor, CountFits};
 fn is_namable(x: usize) -> bool
     ensures { λ r. ⌜ r ≡ namable x ⌝ }
 {
-    if x <= 4 {
+    if x <= 5 {
         return true;
     }
     if 16 <= x { x <= 255 } else { false }

@@ -227,7 +227,7 @@ fn tasks() -> Vec<Task> {
             "collect of message 64 on the fullest state",
             outward,
             1,
-            Box::new(|engine, state| u64::from((engine.collect)(state, &mut [0; 28]))),
+            Box::new(|engine, state| u64::from((engine.collect)(state, &mut [0; packed::MESSAGE]))),
         ),
         task(
             "step of the sample order",
@@ -321,12 +321,13 @@ fn engine_stack() {
             continue;
         }
         for activity in PlanTree::of(&case.bytes).activities {
-            if let Kind::Receive(tuple) | Kind::Arm(tuple) = activity.kind {
+            if let Kind::Receive(tuple, _) | Kind::Arm(tuple) = activity.kind {
                 let message = Message {
                     partner: tuple.partner,
                     operation: tuple.operation,
                     count: tuple.count as u32,
                     values: [0; 4],
+                    reply: 0,
                 };
                 packed::post(&mut state, message);
                 break;

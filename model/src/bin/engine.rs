@@ -5,6 +5,7 @@
 use model::calls::Library;
 use model::comparison::{Comparison, Difference};
 use model::describe;
+use model::order::Faults;
 use model::wander::{Seen, Wander};
 use std::process::exit;
 use std::time::Instant;
@@ -63,10 +64,10 @@ fn main() {
 }
 
 /// How often each number of a fault was seen.
-fn by_number(seen: &[u64; 6]) -> String {
-    let [plain, unbound, large, below, conflict, numbered] = seen;
+fn by_number(seen: &Faults) -> String {
+    let [plain, unbound, large, below, conflict, partner, numbered] = seen;
     format!(
-        "0: {plain}, 1: {unbound}, 2: {large}, 3: {below}, 4: {conflict}, 16 to 255: {numbered}"
+        "0: {plain}, 1: {unbound}, 2: {large}, 3: {below}, 4: {conflict}, 5: {partner}, 16 to 255: {numbered}"
     )
 }
 
@@ -104,6 +105,18 @@ fn told(seen: &Seen, full: bool) {
         "held at a step: sends {}, closes {}, starts {}",
         seen.held_sends, seen.held_closes, seen.held_starts
     );
+    println!(
+        "sends to a partner that a variable holds: {} sent, {} of an unbound variable, {} of no such partner, {} of them while 64 wait; held at {} steps",
+        seen.answered,
+        seen.answers_unbound,
+        seen.no_such_partner,
+        seen.no_such_partner_full,
+        seen.held_answers
+    );
+    println!(
+        "receives that stored whom to reply to: {}, {} of them another than 0",
+        seen.asked, seen.asked_by
+    );
     let [
         _,
         active,
@@ -135,6 +148,13 @@ fn told(seen: &Seen, full: bool) {
         seen.many_conflicts,
         seen.by_number,
         seen.general,
+        seen.answered,
+        seen.answers_unbound,
+        seen.no_such_partner,
+        seen.no_such_partner_full,
+        seen.held_answers,
+        seen.asked,
+        seen.asked_by,
     ];
     let missing = seen.refusals[10..].contains(&0)
         || seen.ends.contains(&0)

@@ -81,9 +81,9 @@ impl Library {
                 answer == bytes.len() as u64
             }
             Err(Wrong::Refused(number, line)) => answer == u64::from(*number) << 32 | *line as u64,
-            // the reason may be any of the 27
+            // the reason may be any of the 30
             Err(Wrong::Line(line)) => {
-                (33..=60).contains(&(answer >> 32)) && answer as u32 as usize == *line
+                (33..=62).contains(&(answer >> 32)) && answer as u32 as usize == *line
             }
         };
         if !good || buffer != left {
@@ -199,8 +199,28 @@ fn drawn(plans: &[Vec<u8>]) -> Vec<String> {
     texts
 }
 
-/// A word for a number, which no other number has.
+/// A word for a number, which no other number has; at times a word of the drawing itself.
 fn name(random: &mut Random, number: usize) -> String {
+    const OWN: [&str; 15] = [
+        "with",
+        "reply",
+        "to",
+        "into",
+        "in",
+        "the",
+        "partner",
+        "operation",
+        "send",
+        "receive",
+        "from",
+        "arm",
+        "root",
+        "set",
+        "raise",
+    ];
+    if number < OWN.len() && random.percent(20) {
+        return OWN[number].to_string();
+    }
     const WORDS: [&str; 12] = [
         "stepping",
         "to",
@@ -594,7 +614,11 @@ fn damaged(random: &mut Random, text: &str) -> String {
             }
             15 => {
                 // a variable or a word is added to the end
-                const MORE: [&str; 16] = [
+                const MORE: [&str; 20] = [
+                    " with reply to partner 3",
+                    " with reply to into v1",
+                    " with reply to v1",
+                    " with",
                     " and v0",
                     " or 1",
                     " > 2",

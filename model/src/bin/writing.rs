@@ -270,7 +270,7 @@ fn noise(random: &mut Random) -> Vec<u32> {
     let small = random.percent(70);
     let mut table: Vec<u32> = (0..length)
         .map(|_| match small {
-            true => random.below(17) as u32,
+            true => random.below(19) as u32,
             false => random.value(),
         })
         .collect();
@@ -298,13 +298,13 @@ fn damage(random: &mut Random, table: &mut Vec<u32>) {
     }
     let at = random.below(count);
     let place = at * PLACES + random.below(8);
-    match random.below(16) {
+    match random.below(17) {
         0 => table[place] = random.value(),
         1 => table[place] = table[place].wrapping_add(1),
         2 => table[place] = table[place].wrapping_sub(1),
         3 => table[at * PLACES + random.below(PLACES)] = random.below(70) as u32,
         // Another code, with the row's numbers as they are.
-        4 => table[at * PLACES + 1] = random.below(17) as u32,
+        4 => table[at * PLACES + 1] = random.below(19) as u32,
         // Another row altogether.
         5 => {
             let rows: [&[u32]; 11] = [
@@ -347,7 +347,7 @@ fn damage(random: &mut Random, table: &mut Vec<u32>) {
         11 | 12 => {
             let receives: Vec<usize> = (1..count)
                 .map(|row| row * PLACES)
-                .filter(|&row| table[row + 1] == 2 && table[row] > 4)
+                .filter(|&row| matches!(table[row + 1], 2 | 18) && table[row] > 4)
                 .collect();
             if let Some(last) = receives.len().checked_sub(1) {
                 let from = receives[random.below(last + 1)];
@@ -372,11 +372,32 @@ fn damage(random: &mut Random, table: &mut Vec<u32>) {
                 .collect();
             if let Some(last) = alone.len().checked_sub(1) {
                 let row = alone[random.below(last + 1)];
-                let telling = [0, 1, 4, 5, 8, 9, 14, 15, 16, 255, 256];
+                let telling = [0, 1, 5, 6, 8, 9, 14, 15, 16, 255, 256];
                 table[row + 1] = match random.below(3) {
                     0 => table[alone[random.below(last + 1)] + 1],
                     _ => telling[random.below(telling.len())],
                 };
+            }
+        }
+        // What stands behind the variables of a send to whom a variable holds, or of a receive that stores whom to reply to: another number, one of the row's
+        // own, or none.
+        15 => {
+            let rows: Vec<usize> = (1..count)
+                .map(|row| row * PLACES)
+                .filter(|&row| matches!(table[row + 1], 17 | 18) && (6..=9).contains(&table[row]))
+                .collect();
+            if let Some(last) = rows.len().checked_sub(1) {
+                let row = rows[random.below(last + 1)];
+                let end = row + table[row] as usize;
+                match random.below(4) {
+                    0 => table[end] = random.below(17) as u32,
+                    1 => table[end] = [63, 64, 127][random.below(3)],
+                    2 => table[end] = table[random.from_to(row + 2, end)],
+                    _ => {
+                        table[end] = 0;
+                        table[row] -= 1;
+                    }
+                }
             }
         }
         // A body that is no start form: its first activity made empty.

@@ -1,10 +1,10 @@
 -- `acting::taken_order` meets its contract. Assumes nothing.
 use borrow.Author.Needs.{needs}
-use Rattle.acting.proofs.TakeReturns.{takes-beyond, takes-far, takes-receive, takes-arm, takes-none}
+use Rattle.acting.proofs.TakeReturns.{takes-beyond, takes-far, takes-receive, takes-asking, takes-arm, takes-none}
 use Rattle.acting.proofs.taken_order.Statement.{statement}
 use Rattle.acting.proofs.taken_order.Tie as tie
 
-ruleset cases = (takes-beyond, takes-far, takes-receive, takes-arm, takes-none)
+ruleset cases = (takes-beyond, takes-far, takes-receive, takes-asking, takes-arm, takes-none)
 
 pub taken-order-spec : {M : Type 1} → statement M
 taken-order-spec =
@@ -19,9 +19,13 @@ taken-order-spec =
     (λ c κs. search needs)
     -- returns-3
     (λ c. search cases)
-    -- bind-row-requires-2
+    -- bind-asking-requires
     (λ c κs. search needs)
     -- returns-4
     (λ c. search cases)
+    -- bind-row-requires-2
+    (λ c κs. search needs)
     -- returns-5
+    (λ c. search cases)
+    -- returns-6
     (λ c. search cases))

@@ -1,10 +1,10 @@
 -- `activity::itself` meets its contract. Assumes nothing.
 use borrow.Author.Needs.{needs}
-use Rattle.activity.proofs.StepReturns.{itself-far, itself-of, itself-closes, itself-numbered, itself-hands, itself-receives, itself-raises, itself-leaves, itself-runs}
+use Rattle.activity.proofs.StepReturns.{itself-far, itself-of, itself-closes, itself-numbered, itself-hands, itself-sends, itself-sends-held, itself-receives, itself-receives-asking, itself-raises, itself-leaves, itself-runs}
 use Rattle.activity.proofs.itself.Statement.{statement}
 use Rattle.activity.proofs.itself.Tie as tie
 
-ruleset cases = (itself-far, itself-of, itself-closes, itself-numbered, itself-hands, itself-receives, itself-raises, itself-leaves, itself-runs)
+ruleset cases = (itself-far, itself-of, itself-closes, itself-numbered, itself-hands, itself-sends, itself-sends-held, itself-receives, itself-receives-asking, itself-raises, itself-leaves, itself-runs)
 
 pub itself-spec : {M : Type 1} → statement M
 itself-spec =
@@ -17,7 +17,11 @@ itself-spec =
     (λ c κs. search needs)
     -- sends-requires
     (λ c κs. search needs)
+    -- sends-requires-2
+    (λ c κs. search needs)
     -- finishes-requires
+    (λ c κs. search needs)
+    -- finishes-requires-2
     (λ c κs. search needs)
     -- sets-requires
     (λ c κs. search needs)
@@ -66,4 +70,8 @@ itself-spec =
     -- returns-13
     (λ c. search cases)
     -- returns-14
+    (λ c. search cases)
+    -- returns-15
+    (λ c. search cases)
+    -- returns-16
     (λ c. search cases))

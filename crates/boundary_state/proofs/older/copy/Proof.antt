@@ -11,7 +11,7 @@ abbrev Inv-loop : tie.InvT-loop
 Inv-loop old state₀ i₀ state i = Same old state i
 
 abbrev μ-loop : tie.MeasureT-loop
-μ-loop old state₀ i₀ state i = 12492 - i
+μ-loop old state₀ i₀ state i = 12748 - i
 
 pub copy-spec : {M : Type 1} → statement M
 copy-spec =

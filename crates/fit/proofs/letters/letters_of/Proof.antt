@@ -7,10 +7,10 @@ use Rattle.fit.proofs.letters.letters_of.Statement.{statement}
 use Rattle.fit.proofs.letters.letters_of.Tie as tie
 
 abbrev Inv-loop : tie.InvT-loop
-Inv-loop waiting messages out₀ many i₀ out i = Filling (Numbered messages) 448 out i
+Inv-loop waiting messages out₀ many i₀ out i = Filling (Numbered messages) 512 out i
 
 abbrev μ-loop : tie.MeasureT-loop
-μ-loop waiting messages out₀ many i₀ out i = waiting * 7 - i
+μ-loop waiting messages out₀ many i₀ out i = waiting * 8 - i
 
 pub letters-of-spec : {M : Type 1} → statement M
 letters-of-spec =

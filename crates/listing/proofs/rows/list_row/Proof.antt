@@ -9,11 +9,11 @@ use Rattle.listing.proofs.rows.list_row.Statement.{statement}
 use Rattle.listing.proofs.rows.list_row.Tie as tie
 
 abbrev Inv-loop : tie.InvT-loop
-Inv-loop table picks marks known bound parts kept slot k cutting letters waiting least first from out₀ skip₀ c₀ at₀ out skip c at =
-    Listens (RowOf table picks marks known bound parts kept slot k cutting letters waiting least) (holding first from out₀) c skip at out
+Inv-loop table picks marks known bound values parts kept slot k cutting letters waiting least first from out₀ skip₀ c₀ at₀ out skip c at =
+    Listens (RowOf table picks marks known bound values parts kept slot k cutting letters waiting least) (holding first from out₀) c skip at out
 
 abbrev μ-loop : tie.MeasureT-loop
-μ-loop table picks marks known bound parts kept slot k cutting letters waiting least first from out₀ skip₀ c₀ at₀ out skip c at = length out₀ - at
+μ-loop table picks marks known bound values parts kept slot k cutting letters waiting least first from out₀ skip₀ c₀ at₀ out skip c at = length out₀ - at
 
 pub list-row-spec : {M : Type 1} → statement M
 list-row-spec =
@@ -32,11 +32,11 @@ list-row-spec =
     (λ c.
     let w = c .before .before .before .before .before .before .before .before .before in
     let l = w .before in
-    omega (arith, w .loop-test .taken, l .loop .inv .near, l .loop .inv .long, l .before .before .good .1 .1 .1 .1 .1 .1 .1 .1 .1 .1 .1 .1 .1 .1 .1 .0))
+    omega (arith, w .loop-test .taken, l .loop .inv .near, l .loop .inv .long, l .before .before .good .1 .1 .1 .1 .1 .1 .1 .1 .1 .1 .1 .1 .1 .1 .1 .1 .0))
     -- add-at
     (λ c.
     let w = c .before .before .before .before .before .before .before .before .before in
-    omega (arith, w .loop-test .taken, w .before .loop .inv .long, w .before .before .before .good .1 .1 .1 .1 .1 .1 .1 .1 .1 .1 .1 .1 .1 .1 .1 .0))
+    omega (arith, w .loop-test .taken, w .before .loop .inv .long, w .before .before .before .good .1 .1 .1 .1 .1 .1 .1 .1 .1 .1 .1 .1 .1 .1 .1 .1 .0))
     -- loop-less
     (λ c.
     let w = c .before .before .before .before .before .before .before .before .before in

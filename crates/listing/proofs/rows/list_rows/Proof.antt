@@ -14,12 +14,12 @@ use Rattle.listing.proofs.rows.list_rows.Tie as tie
 ruleset cases = (row-lists, rowing-starts, rowing-again, rowing-done)
 
 abbrev Inv-loop : tie.InvT-loop
-Inv-loop table picks marks known bound parts kept slot activities cutting letters waiting least out₀ c₀ k₀ out c k =
-    Rowing table activities (Opening table picks marks known bound parts kept letters waiting least) (actLine listing cutting waiting slot)
+Inv-loop table picks marks known bound values parts kept slot activities cutting letters waiting least out₀ c₀ k₀ out c k =
+    Rowing table activities (Opening table picks marks known bound values parts kept letters waiting least) (actLine listing cutting waiting slot)
     (holding (c₀ .skip) (c₀ .at) out₀) k (holding (c .skip) (c .at) out) × (length out ≡ length out₀)
 
 abbrev μ-loop : tie.MeasureT-loop
-μ-loop table picks marks known bound parts kept slot activities cutting letters waiting least out₀ c₀ k₀ out c k = activities - k
+μ-loop table picks marks known bound values parts kept slot activities cutting letters waiting least out₀ c₀ k₀ out c k = activities - k
 
 pub list-rows-spec : {M : Type 1} → statement M
 list-rows-spec =

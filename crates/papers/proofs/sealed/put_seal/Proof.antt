@@ -11,7 +11,7 @@ abbrev Inv-loop : tie.InvT-loop
 Inv-loop file₀ left₀ place₀ file left place = length file ≡ length file₀
 
 abbrev μ-loop : tie.MeasureT-loop
-μ-loop file₀ left₀ place₀ file left place = 29404 - place
+μ-loop file₀ left₀ place₀ file left place = 29660 - place
 
 pub put-seal-spec : {M : Type 1} → statement M
 put-seal-spec =

@@ -16,6 +16,8 @@ code-at-spec =
     (λ c. search needs)
     -- enum-known-read
     (λ c. search needs)
+    -- unknown-requires
+    (λ c κs. search needs)
     -- returns
     (λ c. search cases)
     -- misplaced-requires

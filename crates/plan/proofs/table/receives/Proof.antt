@@ -12,4 +12,6 @@ receives-spec =
     -- returns-2
     (λ c. rw (c .match .keys2))
     -- returns-3
-    (λ c. let r = c .match .rest in simp (ne-eqb _ _ (r .1), ne-eqb _ _ (r .0 .1))))
+    (λ c. rw (c .match .keys3))
+    -- returns-4
+    (λ c. let r = c .match .rest in simp (ne-eqb _ _ (r .1), ne-eqb _ _ (r .0 .1), ne-eqb _ _ (r .0 .0 .1))))

@@ -1,10 +1,10 @@
 -- `rows::cut::width_of` meets its contract. Assumes nothing.
 use borrow.Author.Needs.{needs}
-use Rattle.rows.proofs.CutReturns.{width-send, width-receive, width-arm, width-set, width-sequence, width-flow, width-pick, width-raise, width-code}
+use Rattle.rows.proofs.CutReturns.{width-send, width-receive, width-held, width-asking, width-arm, width-set, width-sequence, width-flow, width-pick, width-raise, width-code}
 use Rattle.rows.proofs.cut.width_of.Statement.{statement}
 use Rattle.rows.proofs.cut.width_of.Tie as tie
 
-ruleset cases = (width-send, width-receive, width-arm, width-set, width-sequence, width-flow, width-pick, width-raise, width-code)
+ruleset cases = (width-send, width-receive, width-held, width-asking, width-arm, width-set, width-sequence, width-flow, width-pick, width-raise, width-code)
 
 pub width-of-spec : {M : Type 1} → statement M
 width-of-spec =
@@ -20,6 +20,14 @@ width-of-spec =
     -- add-at-most-19-3
     (λ c. search needs)
     -- at-most-19-requires-3
+    (λ c κs. search needs)
+    -- add-at-most-19-4
+    (λ c. search needs)
+    -- at-most-19-requires-4
+    (λ c κs. search needs)
+    -- add-at-most-19-5
+    (λ c. search needs)
+    -- at-most-19-requires-5
     (λ c κs. search needs)
     -- returns
     (λ c. (search cases, search needs))
@@ -38,4 +46,8 @@ width-of-spec =
     -- returns-8
     (λ c. (search cases, search needs))
     -- returns-9
+    (λ c. (search cases, search needs))
+    -- returns-10
+    (λ c. (search cases, search needs))
+    -- returns-11
     (λ c. (search cases, search needs)))

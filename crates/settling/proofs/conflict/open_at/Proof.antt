@@ -1,10 +1,10 @@
 -- `settling::conflict::open_at` meets its contract. Assumes nothing.
 use borrow.Author.Needs.{needs}
-use Rattle.settling.proofs.ConflictReturns.{open-receive, open-arm, open-beyond, open-other}
+use Rattle.settling.proofs.ConflictReturns.{open-receive, open-asking, open-arm, open-beyond, open-other}
 use Rattle.settling.proofs.conflict.open_at.Statement.{statement}
 use Rattle.settling.proofs.conflict.open_at.Tie as tie
 
-ruleset cases = (open-receive, open-arm, open-beyond, open-other)
+ruleset cases = (open-receive, open-asking, open-arm, open-beyond, open-other)
 
 pub open-at-spec : {M : Type 1} → statement M
 open-at-spec =
@@ -19,13 +19,17 @@ open-at-spec =
     (λ c. search needs)
     -- returns
     (λ c. search cases)
-    -- cast-if3
+    -- element-copy-out-result-2
+    (λ c. search needs)
+    -- returns-2
+    (λ c. search cases)
+    -- cast-if4
     (λ c. search needs)
     -- arm-at-requires
     (λ c κs. search needs)
-    -- returns-2
-    (λ c. search cases)
     -- returns-3
     (λ c. search cases)
     -- returns-4
+    (λ c. search cases)
+    -- returns-5
     (λ c. search cases))

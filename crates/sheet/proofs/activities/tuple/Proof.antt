@@ -24,23 +24,15 @@ tuple-spec =
     (λ c κs. search needs)
     -- returns
     (λ c. search needs)
-    -- is-over-requires
-    (λ c κs. search needs)
-    -- read-to-requires
-    (λ c κs. search needs)
-    -- returns-2
-    (λ c. search needs)
     -- after-mark-requires
     (λ c κs. search needs)
-    -- unread-requires
-    (λ c κs. search needs)
-    -- returns-3
+    -- returns-2
     (λ c. search needs)
     -- loop-less
     (λ c. search needs)
     -- loop-again
     (λ c. tt)
-    -- unread-requires-2
+    -- unread-requires
     (λ c κs. search needs)
-    -- returns-4
+    -- returns-3
     (λ c. search needs))

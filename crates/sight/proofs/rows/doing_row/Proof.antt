@@ -1,10 +1,10 @@
 -- `sight::rows::doing_row` meets its contract. Assumes nothing.
 use borrow.Author.Needs.{needs}
-use Rattle.sight.proofs.RowSeen.{send-room, send-held, send-raises, receive-takes, arm-takes, close-held, close-shown, raise-shown, doing-empty, doing-step, doing-none}
+use Rattle.sight.proofs.RowSeen.{send-room, send-held, send-raises, receive-takes, asking-takes, arm-takes, close-held, close-shown, raise-shown, doing-empty, doing-step, doing-none}
 use Rattle.sight.proofs.rows.doing_row.Statement.{statement}
 use Rattle.sight.proofs.rows.doing_row.Tie as tie
 
-ruleset cases = (send-room, send-held, send-raises, receive-takes, arm-takes, close-held, close-shown, raise-shown, doing-empty, doing-step, doing-none)
+ruleset cases = (send-room, send-held, send-raises, receive-takes, asking-takes, arm-takes, close-held, close-shown, raise-shown, doing-empty, doing-step, doing-none)
 
 pub doing-row-spec : {M : Type 1} → statement M
 doing-row-spec =
@@ -15,11 +15,13 @@ doing-row-spec =
     (λ c. search needs)
     -- element-copy-out-kind
     (λ c. search needs)
+    -- is-send-requires
+    (λ c κs. search needs)
     -- shown-requires
     (λ c κs. search needs)
     -- returns
     (λ c. search cases)
-    -- bound-row-requires
+    -- may-send-requires
     (λ c κs. search needs)
     -- withheld-requires
     (λ c κs. search needs)
@@ -37,27 +39,31 @@ doing-row-spec =
     (λ c κs. search needs)
     -- returns-5
     (λ c. search cases)
+    -- take-row-requires-3
+    (λ c κs. search needs)
+    -- returns-6
+    (λ c. search cases)
     -- is-scope-requires
     (λ c κs. search needs)
     -- close-held-requires
     (λ c κs. search needs)
     -- withheld-requires-2
     (λ c κs. search needs)
-    -- returns-6
+    -- returns-7
     (λ c. search cases)
     -- shown-requires-3
     (λ c κs. search needs)
-    -- returns-7
+    -- returns-8
     (λ c. search cases)
     -- shown-requires-4
     (λ c κs. search needs)
-    -- returns-8
-    (λ c. search cases)
     -- returns-9
+    (λ c. search cases)
+    -- returns-10
     (λ c. search cases)
     -- shown-requires-5
     (λ c κs. search needs)
-    -- returns-10
-    (λ c. search cases)
     -- returns-11
+    (λ c. search cases)
+    -- returns-12
     (λ c. search cases))

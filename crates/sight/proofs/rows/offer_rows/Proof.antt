@@ -10,10 +10,10 @@ use Rattle.sight.proofs.rows.offer_rows.Tie as tie
 ruleset cases = (wholes-beyond, offer-full, rowing-starts, rowing-again, rowing-done)
 
 abbrev Inv-loop : tie.InvT-loop
-Inv-loop table picks marks known bound parts kept slot activities cutting letters waiting least c₀ k₀ c k = Rowing table activities (Opening table picks marks known bound parts kept letters waiting least) (offerLine cutting waiting slot) c₀ k c
+Inv-loop table picks marks known bound values parts kept slot activities cutting letters waiting least c₀ k₀ c k = Rowing table activities (Opening table picks marks known bound values parts kept letters waiting least) (offerLine cutting waiting slot) c₀ k c
 
 abbrev μ-loop : tie.MeasureT-loop
-μ-loop table picks marks known bound parts kept slot activities cutting letters waiting least c₀ k₀ c k = activities - k
+μ-loop table picks marks known bound values parts kept slot activities cutting letters waiting least c₀ k₀ c k = activities - k
 
 pub offer-rows-spec : {M : Type 1} → statement M
 offer-rows-spec =

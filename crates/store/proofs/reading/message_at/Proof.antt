@@ -23,5 +23,9 @@ message-at-spec =
     (λ c. search needs)
     -- four-at-requires-3
     (λ c κs. search needs)
+    -- add-four-at-3
+    (λ c. search needs)
+    -- four-at-requires-4
+    (λ c κs. search needs)
     -- returns
-    (λ c. let b = c .before in let d = b .before in let e = d .before .before in let f = e .before .before .before in message-is (f .args .s .now) (f .args .at) (d .four-at .ensures) (b .four-at2 .ensures) (c .four-at3 .ensures) (e .take-fours .ensures)))
+    (λ c. let b = c .before in let d = b .before in let g = d .before in let e = g .before .before in let f = e .before .before .before in message-is (f .args .s .now) (f .args .at) (g .four-at .ensures) (d .four-at2 .ensures) (b .four-at3 .ensures) (e .take-fours .ensures) (c .four-at4 .ensures)))

@@ -8,7 +8,7 @@ use Rattle.store.proofs.reading.messages_at.Statement.{statement}
 use Rattle.store.proofs.reading.messages_at.Tie as tie
 
 abbrev Inv-loop : tie.InvT-loop
-Inv-loop s at out₀ i₀ out i = Reading messageIn 28 64 s at out i
+Inv-loop s at out₀ i₀ out i = Reading messageIn 32 64 s at out i
 
 abbrev μ-loop : tie.MeasureT-loop
 μ-loop s at out₀ i₀ out i = 64 - i

@@ -25,7 +25,11 @@ put-message-spec =
     (λ c. search needs)
     -- put-fours-requires
     (λ c κs. let a = c .before .before .before .before .before .before .before .before .before .before .before .before .before .before .before .before in room-fours 4 _ (a .args .m .values) ((message-whole (a .args .m) _ (a .good .1 .1 .0)) .values-long) (omega arith))
+    -- add-put-four-3
+    (λ c. search needs)
+    -- put-four-requires-4
+    (λ c κs. search needs)
     -- same-length
     (λ c. search needs)
     -- returns
-    (λ c. let a = c .before .before in let b = a .before .before .before .before .before in let d = b .before .before .before .before in let e = d .before .before .before .before in let f = e .before .before .before .before in message-put (f .args .m) (message-whole (f .args .m) _ (f .good .1 .1 .0)) (e .put-four .ensures) (d .put-four2 .ensures) (b .put-four3 .ensures) (a .put-fours .ensures)))
+    (λ c. let g = c .before .before in let a = g .before .before .before .before in let b = a .before .before .before .before .before in let d = b .before .before .before .before in let e = d .before .before .before .before in let f = e .before .before .before .before in message-put (f .args .m) (message-whole (f .args .m) _ (f .good .1 .1 .0)) (e .put-four .ensures) (d .put-four2 .ensures) (b .put-four3 .ensures) (a .put-fours .ensures) (g .put-four4 .ensures)))

@@ -9,7 +9,7 @@ use Rattle.store.proofs.writing.put_messages.Tie as tie
 ruleset cases = (writing-starts, writing-more, writing-ends)
 
 abbrev Inv-loop : tie.InvT-loop
-Inv-loop out₀ at messages i₀ out i = Writing messageBytes 28 out₀ out at messages i
+Inv-loop out₀ at messages i₀ out i = Writing messageBytes 32 out₀ out at messages i
 
 abbrev μ-loop : tie.MeasureT-loop
 μ-loop out₀ at messages i₀ out i = 64 - i

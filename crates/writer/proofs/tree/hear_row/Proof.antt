@@ -9,6 +9,8 @@ ruleset cases = (hears-receive, hears-arm, hears-none)
 pub hear-row-spec : {M : Type 1} → statement M
 hear-row-spec =
     tie.close (tie.spec
+    -- is-receive-requires
+    (λ c κs. search needs)
     -- cell-at-requires
     (λ c κs. search needs)
     -- cell-at-requires-2
