@@ -1,4 +1,6 @@
 // One order: what a step in it leads to, and what it takes.
+#![tactic(auto)]
+
 mod acting;
 mod judging;
 mod outcomes;

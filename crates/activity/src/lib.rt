@@ -1,4 +1,6 @@
 // The step that an activity has by itself, and the binding of a variable.
+#![tactic(auto)]
+
 ghost use Rattle.std.specs.Prelude.{◌<◌, ◌≡◌};
 ghost use Rattle.order.specs.State.{marked as marked_of};
 ghost use Rattle.order.specs.Answering.{runs_of, finishes_of, raises_of, leaves_of, Binds, Enters, Repeats, SendStep, StepOf, Closes, HandsOn, StepsAt, WorthAt};

@@ -1,4 +1,6 @@
 // Answers as numbers, for callers in other languages: a step as one number, and numbers one after the other in a lent buffer.
+#![tactic(auto)]
+
 ghost use Rattle.std.specs.Prelude.{◌≡◌, set};
 ghost use Rattle.answers.specs.Numbering.{step_number};
 ghost use Rattle.machine.specs.Calls.{end_number};

@@ -1,4 +1,6 @@
 // How an activity begins, and an order.
+#![tactic(auto)]
+
 ghost use Rattle.std.specs.Prelude.{◌≤◌, ◌<◌, ◌&&◌, ◌≡◌};
 ghost use Rattle.order.specs.Answering.{throughout_of, around_of, Begins, BeginsInTurn, BeginsAll, StartsOrder};
 ghost use Rattle.order.specs.State.{no_order};

@@ -1,5 +1,7 @@
 // The engine for callers in other languages: bytes and numbers go in, one number comes out. A state is the caller's bytes, which each call that
 // changes it brings up to date. Built as a static library.
+#![tactic(auto)]
+
 ghost use Rattle.std.specs.Prelude.{◌+◌, ◌*◌, [], ◌∷◌, length, ◌≡◌};
 ghost use Rattle.boundary.specs.Packed.{pair_of, triple_of, accept_number, show_number};
 ghost use Rattle.boundary.specs.Engine as engine;

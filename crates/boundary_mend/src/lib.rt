@@ -1,4 +1,6 @@
 // The mending of padded plans for callers in other languages: bytes go in and out of lent buffers, and one number comes out. Built as a static library.
+#![tactic(auto)]
+
 ghost use Rattle.std.specs.Prelude.{length, ◌≡◌};
 ghost use Rattle.boundary_mend.specs.Packed.{answer_number};
 ghost use Rattle.mend.specs.Outcome.{answer_of, buffer_of};

@@ -1,5 +1,7 @@
 // For callers in other languages: the version of the library, a state of any version brought up to date, and the seal of bytes that are kept. A state of today
 // comes out as it is, and one of an older version as the same state of today. Built as a static library.
+#![tactic(auto)]
+
 mod older;
 
 ghost use Rattle.std.specs.Prelude.{◌≡◌};

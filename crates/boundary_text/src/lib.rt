@@ -1,5 +1,7 @@
 // A plan as text for callers in other languages: the crate sheet makes rows of it, the crate writer bytes; and back, by the crate lettering. Built as a
 // static library.
+#![tactic(auto)]
+
 use plan::table::{LENGTH, Table};
 use sheet::Sheet;
 use writer::Answer;

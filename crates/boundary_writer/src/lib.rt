@@ -1,4 +1,6 @@
 // The plan writer for callers in other languages: tables and bytes go in and out of lent buffers, and one number comes out. Built as a static library.
+#![tactic(auto)]
+
 ghost use Rattle.std.specs.Prelude.{length, ◌≡◌};
 ghost use Rattle.boundary_writer.specs.Packed.{answer_number};
 ghost use Rattle.plan.specs.Read.{read_plan};

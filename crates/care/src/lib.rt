@@ -1,4 +1,6 @@
 // Files with care, for a desk that speaks to a person: what has the name of the file is looked at first, and stays beside it as FILE.old.
+#![tactic(auto)]
+
 mod ordinary;
 mod paging;
 mod retaining;

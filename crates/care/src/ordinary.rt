@@ -2,7 +2,7 @@
 use libc::{SEEK_END, SEEK_SET};
 
 // Nothing, or what cannot be opened; an ordinary file, with a saved plan or not; a folder; a link; or something else: a device, a pipe.
-#[derive(Drop)]
+#[derive(Clone, Copy)]
 pub(crate) enum Kind {
     Nothing,
     Ordinary,

@@ -1,5 +1,7 @@
 // What may be wrong with an accepted plan, told before anything runs: warnings, each with its activity, by the plan's table alone. A plan with
 // warnings is a plan: what is warned of is what it does, and seldom what was meant.
+#![tactic(auto)]
+
 mod binding;
 mod numbering;
 mod partners;

@@ -1,4 +1,6 @@
 // The commands of the desk: what a line asks for, by its words.
+#![tactic(auto)]
+
 mod verbs;
 
 ghost use Rattle.std.specs.Prelude.{◌≡◌};
@@ -8,7 +10,7 @@ use text::{Decimal, decimal_of, word_at};
 use verbs::verb_of;
 
 // The command words that stand alone.
-#[derive(Drop)]
+#[derive(Clone, Copy)]
 pub enum Alone {
     Draw,
     Offer,
@@ -23,7 +25,7 @@ pub enum Alone {
 }
 
 // Those that take one word: bytes in hexadecimal, or the name of a file.
-#[derive(Drop)]
+#[derive(Clone, Copy)]
 pub enum Worded {
     Plan,
     Save,
@@ -32,7 +34,7 @@ pub enum Worded {
 }
 
 // Those that take one number.
-#[derive(Drop)]
+#[derive(Clone, Copy)]
 pub enum Numbered {
     Show,
     Step,
@@ -40,14 +42,14 @@ pub enum Numbered {
 }
 
 // Those that take numbers, as many as there are.
-#[derive(Drop)]
+#[derive(Clone, Copy)]
 pub enum Listed {
     Post,
     Run,
 }
 
 // What the first word of a line asks for: nothing where there is none, or where it begins a comment.
-#[derive(Drop)]
+#[derive(Clone, Copy)]
 pub enum Verb {
     Nothing,
     Unknown,
@@ -58,7 +60,7 @@ pub enum Verb {
 }
 
 // What is wrong with a line.
-#[derive(Drop)]
+#[derive(Clone, Copy)]
 pub enum Trouble {
     Unknown,
     // it lacks a word, or has one too many
@@ -70,7 +72,7 @@ pub enum Trouble {
 }
 
 // A line of the desk: a command with what it takes, or what is wrong with it. The numbers of a list are still to be read, from `from` on.
-#[derive(Drop)]
+#[derive(Clone, Copy)]
 pub enum Command {
     // a comment, or a blank line
     Nothing,

@@ -1,4 +1,6 @@
 // The console of the engine: the answer to each line, as docs/DESK.md tells it.
+#![tactic(auto)]
+
 mod answering;
 mod lists;
 mod taking;

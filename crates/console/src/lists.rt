@@ -3,7 +3,7 @@ use commands::Trouble;
 use text::{Decimal, Word};
 
 // What is found where a number may stand: one, with the place after it; the end of the line; or trouble.
-#[derive(Drop)]
+#[derive(Clone, Copy)]
 enum Next {
     Number { value: u32, to: usize },
     End,
@@ -11,7 +11,7 @@ enum Next {
 }
 
 // The numbers of a line: how many, or what is wrong with them.
-#[derive(Drop)]
+#[derive(Clone, Copy)]
 pub enum Numbers {
     All { count: usize },
     Wrong { why: Trouble },
@@ -64,7 +64,7 @@ pub fn numbers_of(line: &[u8], from: usize, limit: usize, numbers: &mut [u32; 10
 }
 
 // The partner to reply to that a post names, 0 where it names none, or what is wrong with it.
-#[derive(Drop)]
+#[derive(Clone, Copy)]
 pub enum Reply {
     Partner { number: u32 },
     Wrong { why: Trouble },

@@ -2,7 +2,7 @@
 
 // The line of the write, 0 where no text comes in; how many bytes of the text are kept; and the first line that could not be, 0 where all could,
 // with whether it is itself too long, or all of them together are.
-#[derive(Drop)]
+#[derive(Clone, Copy)]
 pub struct Incoming {
     pub line: u64,
     pub used: usize,

@@ -1,4 +1,6 @@
 // The desk: the console of the engine. It reads commands from standard input, one a line, and answers each on standard output (docs/DESK.md).
+#![tactic(auto)]
+
 mod incoming;
 mod words;
 
@@ -11,7 +13,7 @@ use text::Line;
 
 // The console; the text of a plan that comes in; the number of lines ended so far; how many bytes of the present line are kept; whether each line
 // is repeated before its answer, whether an error ends the session, and whether who types is asked for the next line; and whether input may follow.
-#[derive(Drop)]
+#[derive(Clone, Copy)]
 struct Session {
     desk: Desk,
     incoming: Incoming,

@@ -2,7 +2,7 @@
 use libc::{STDERR_FILENO, STDIN_FILENO, STDOUT_FILENO};
 use text::same;
 
-#[derive(Drop)]
+#[derive(Clone, Copy)]
 pub struct Words {
     pub echo: bool,
     pub plain: bool,

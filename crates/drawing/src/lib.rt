@@ -1,5 +1,7 @@
 // A plan drawn: its activities and the names that it declares, a line for each. And how what is written is gathered. Each function that puts
 // something writes at the place `used` of `out`, and answers the place after.
+#![tactic(auto)]
+
 mod activities;
 mod expressions;
 mod naming;

@@ -1,6 +1,8 @@
 // Runs examples through the console and compares each answer with the one beside it. Standard input has a heading for each example, `# example `
 // and what it shows, and below it the commands with their answers, as data/scenarios.txt has them; other lines that begin with `#` are comments.
 // A line is written for each example, and at the end how many there were.
+#![tactic(auto)]
+
 use libc::STDIN_FILENO;
 use papers::Desk;
 use text::Line;
@@ -8,7 +10,7 @@ use text::Line;
 // The console; the number of lines ended so far; how many bytes of the present line are kept; the examples begun, and those that agreed, the
 // present one not counted; the line at which the present one was first answered otherwise, or 0; how much of the report waits to be written; and
 // whether input may follow.
-#[derive(Drop)]
+#[derive(Clone, Copy)]
 struct Session {
     desk: Desk,
     lines: u64,

@@ -1,5 +1,7 @@
 // How an expression of a plan is drawn, by the nodes of its table: by its own operation, or, where several nodes say what one word says (as the crate
 // spelling has them say it, combining.rt there), by that word. Each such word, read again, is these very nodes.
+#![tactic(auto)]
+
 use plan::table::{NODES, Table, VALUES};
 
 // The code of node m.

@@ -1,5 +1,7 @@
 // A plan as text, in a lent buffer: what the desk's `draw` prints of a plan without names. Each function that puts something writes at the place `used` of
 // `out`, and answers the place after.
+#![tactic(auto)]
+
 mod output;
 mod table;
 

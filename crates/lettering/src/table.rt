@@ -5,7 +5,7 @@ use plan::kind;
 use plan::table::{COUNT, END, FIRST_NUMBERS, KIND, NODES, OTHER_NUMBERS, Table, VALUES, WIDTH};
 
 // Where an activity stands: how many activities and arms stand around it, and the nearest of these, or itself where there is none.
-#[derive(Drop)]
+#[derive(Clone, Copy)]
 pub struct Place {
     pub depth: usize,
     pub parent: usize,

@@ -1,5 +1,7 @@
 // A window of the offer: the steps from a choice on, as numbers, in a lent buffer. Each order's rows and each message that may start an order are gone
 // through once, and asked one by one for the steps that are written.
+#![tactic(auto)]
+
 mod letters;
 mod rows;
 mod whole;
@@ -13,14 +15,14 @@ use plan::Answer;
 use plan::table::{LENGTH, Table};
 
 // What is carried along: how many steps are still to be passed by, and how many were written.
-#[derive(Drop)]
+#[derive(Clone, Copy)]
 pub struct Window {
     pub skip: u32,
     pub at: usize,
 }
 
 // How many steps were written; or a refusal.
-#[derive(Drop)]
+#[derive(Clone, Copy)]
 pub struct Listed {
     pub refusal: u32,
     pub many: usize,

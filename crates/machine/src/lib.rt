@@ -1,4 +1,6 @@
 // The state that orders run on, its limits, what the calls on it answer, and the call that makes one: load.
+#![tactic(auto)]
+
 pub mod limits;
 pub mod made;
 
@@ -11,7 +13,7 @@ use plan::Answer;
 use plan::table::LENGTH;
 
 // A message: places beyond its count hold 0; `reply` is the partner to reply to.
-#[derive(Drop)]
+#[derive(Clone, Copy)]
 pub struct Message {
     pub partner: u32,
     pub operation: u32,
@@ -21,14 +23,14 @@ pub struct Message {
 }
 
 // The messages of a state: the first `waiting` places wait.
-#[derive(Drop)]
+#[derive(Clone, Copy)]
 pub struct Mail {
     pub messages: [Message; 64],
     pub waiting: usize,
 }
 
 // The first `length` bytes of `plan` are the plan. The first `waiting` places of `messages` wait, in order of arrival.
-#[derive(Drop)]
+#[derive(Clone, Copy)]
 pub struct State {
     pub plan: [u8; 4096],
     pub length: usize,
@@ -39,7 +41,7 @@ pub struct State {
 
 // What a step answers: where `refusal` is 0, the slot, the activity and the message place (0 where none) of the step taken, and the end; where that is
 // handled or failed, the number of the fault that the root handled, or that went out of the root, and 0 where not.
-#[derive(Drop)]
+#[derive(Clone, Copy)]
 pub struct Step {
     pub refusal: u32,
     pub slot: usize,
@@ -50,7 +52,7 @@ pub struct Step {
 }
 
 // What loading bytes gives: the refusal and its place, or 0 and 0, and the state.
-#[derive(Drop)]
+#[derive(Clone, Copy)]
 pub struct Loaded {
     pub refusal: u32,
     pub place: usize,
@@ -58,14 +60,14 @@ pub struct Loaded {
 }
 
 // What posting gives: the refusal or 0, and the state.
-#[derive(Drop)]
+#[derive(Clone, Copy)]
 pub struct Posted {
     pub refusal: u32,
     pub state: State,
 }
 
 // What collecting gives: the refusal or 0, the message handed out (one with no values where it is refused), and the state.
-#[derive(Drop)]
+#[derive(Clone, Copy)]
 pub struct Collected {
     pub refusal: u32,
     pub message: Message,
@@ -73,7 +75,7 @@ pub struct Collected {
 }
 
 // How many orders started, and how many ended in each way.
-#[derive(Drop)]
+#[derive(Clone, Copy)]
 pub struct Tally {
     pub started: u32,
     pub well: u32,

@@ -1,4 +1,6 @@
 // The messages of a state, and the calls that take no step: post, collect and drop.
+#![tactic(auto)]
+
 pub mod letters;
 
 ghost use Rattle.std.specs.Prelude.{◌≡◌};

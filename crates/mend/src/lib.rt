@@ -1,4 +1,6 @@
 // Mends plans whose numbers are padded with zero groups: document 02, request 11. The public call is `mend`.
+#![tactic(auto)]
+
 mod padded;
 
 ghost use Rattle.std.specs.Prelude.{◌-◌, ◌≤◌, eqb, length, take, ◌||◌, ◌≡◌};
@@ -13,14 +15,14 @@ use numbers::Number;
 use plan::table::LENGTH;
 
 // Whether bytes are a padded plan.
-#[derive(Drop)]
+#[derive(Clone, Copy)]
 pub enum Reading {
     Whole,
     Refused { number: u32, place: usize },
 }
 
 // How many bytes were written and how many groups were cut, or why none.
-#[derive(Drop)]
+#[derive(Clone, Copy)]
 pub enum Answer {
     Mended { length: usize, cut: usize },
     Refused { number: u32, place: usize },

@@ -1,13 +1,15 @@
 // The names of a plan's variables, partners, operations, scopes and faults, and the number that a typed name stands for. A table of names, which the crate spelling makes of a
 // text, has 512 places of 33 bytes, each the length of a name and its characters: 16 for variables, then 64 for partners, then 64 for operations, then
 // 128 for scopes in the order of the drawing, then 240 for the faults 16 to 255. A table of zeros has no names.
+#![tactic(auto)]
+
 ghost use Rattle.std.specs.Prelude.{◌≡◌, ◌+◌, ◌<◌, ◌≤◌, length};
 ghost use Rattle.names.specs.Named.{length_at, name_at, is_named, number_named, numbered, by_name, stands_for};
 
 use text::Decimal;
 
 // What a word of a message stands for: a number; one that is too large; a name that nobody has; or no number where one is asked for.
-#[derive(Drop)]
+#[derive(Clone, Copy)]
 pub enum Stands {
     Number { value: u32 },
     Large,

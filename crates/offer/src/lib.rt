@@ -1,4 +1,6 @@
 // What is offered in a state: the step that a choice would take, and how many steps there are. No list is built: a choice is counted down.
+#![tactic(auto)]
+
 pub mod letters;
 mod previews;
 mod slots;
@@ -13,14 +15,14 @@ use plan::table::{LENGTH, Table};
 use sight::counting;
 
 // How many steps are on offer, and whether something is held.
-#[derive(Drop)]
+#[derive(Clone, Copy)]
 pub struct Amount {
     pub many: usize,
     pub held: bool,
 }
 
 // How many steps are offered, and whether something is held; or a refusal.
-#[derive(Drop)]
+#[derive(Clone, Copy)]
 pub struct Offered {
     pub refusal: u32,
     pub many: usize,

@@ -1,4 +1,6 @@
 // One order: what it holds, what the rows of its plan say, how its marks and what it remembers change, and what expressions come to.
+#![tactic(auto)]
+
 pub mod evaluation;
 pub mod fault;
 pub mod inside;
@@ -14,7 +16,7 @@ pub mod sending;
 // `marks` has the mark of each activity by its number. `bound` is 1 where the variable of that number is bound and 0 where it is not.
 // The first `kept` places of `remembered` are the closings, oldest first, and the places beyond hold 0. `cause` is the number of the fault that the root
 // faulted with, 0 where it has not faulted.
-#[derive(Drop)]
+#[derive(Clone, Copy)]
 pub struct Order {
     pub root: u8,
     pub marks: [u8; 256],
@@ -27,14 +29,14 @@ pub struct Order {
 
 // A closing that is remembered: the number of the scope that closed, and the part that it is remembered for, by the number of that part's first
 // activity: 0 the root's body, k + 1 the body of scope k.
-#[derive(Drop)]
+#[derive(Clone, Copy)]
 pub struct Closing {
     pub scope: u8,
     pub part: u8,
 }
 
 // How an order ended with a step, if it did.
-#[derive(Drop)]
+#[derive(Clone, Copy)]
 pub enum End {
     None,
     Well,
@@ -44,7 +46,7 @@ pub enum End {
 }
 
 // What an expression comes to: a fault with its number, or a value.
-#[derive(Drop)]
+#[derive(Clone, Copy)]
 pub enum Worth {
     Fault { number: u8 },
     Value { value: u32 },
@@ -52,7 +54,7 @@ pub enum Worth {
 
 // How what runs stands after a step in it: it runs on; it is over; a fault came out of it; the order leaves; and of what stands around an undo
 // part that is running, the undo part is over, or a fault came out of it. A fault has its number.
-#[derive(Drop)]
+#[derive(Clone, Copy)]
 pub enum Way {
     Running,
     Over,
@@ -63,14 +65,14 @@ pub enum Way {
 }
 
 // An order after a step in part of it, and how that part stands.
-#[derive(Drop)]
+#[derive(Clone, Copy)]
 pub struct Went {
     pub way: Way,
     pub order: Order,
 }
 
 // The marks after something began, and whether it is over already.
-#[derive(Drop)]
+#[derive(Clone, Copy)]
 pub struct Entered {
     pub marks: [u8; 256],
     pub over: bool,
@@ -78,7 +80,7 @@ pub struct Entered {
 
 // A scope by the rows of the table: the root, or the scope with the number `first`. Its numbers are `first` to `end`, its body stands from `body`
 // on, and its fault parts, right after the body, from `parts` on: `count` by number, and then the general one.
-#[derive(Drop)]
+#[derive(Clone, Copy)]
 pub struct Spot {
     pub root: bool,
     pub first: usize,
@@ -89,7 +91,7 @@ pub struct Spot {
 }
 
 // An order after a step, how it ended, if it did, and the number of the fault that the root handled, or that went out of the root, where it ended so.
-#[derive(Drop)]
+#[derive(Clone, Copy)]
 pub struct Next {
     pub end: End,
     pub fault: u8,
@@ -97,7 +99,7 @@ pub struct Next {
 }
 
 // The place of what is looked for, or none.
-#[derive(Drop)]
+#[derive(Clone, Copy)]
 pub enum Found {
     At(usize),
     Nothing,

@@ -1,6 +1,8 @@
 // The state of the desk as one HTML page, which needs no server and no script: what is held, the orders with what each waits for, the messages, and each
 // order on the drawing of its plan. All words come from the crates that tell the same on the console. Each function writes at the place `used` of
 // `out`, an `out` of a page (drawing/src/output.rt), and answers the place after.
+#![tactic(auto)]
+
 mod boxes;
 mod head;
 mod messages;

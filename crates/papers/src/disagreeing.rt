@@ -4,7 +4,7 @@ use drawing::{put, put_byte, put_next, put_number};
 use plan::kind;
 
 // What a receive or an arm asks for; a count of 0 where there is none.
-#[derive(Drop)]
+#[derive(Clone, Copy)]
 struct Asked {
     partner: u32,
     operation: u32,

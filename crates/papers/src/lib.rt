@@ -1,4 +1,6 @@
 // What the desk does with plans and files: a plan is read, drawn, shown, written from a text and mended, a state saved and opened.
+#![tactic(auto)]
+
 mod brakes;
 mod checks;
 mod disagreeing;
@@ -25,7 +27,7 @@ pub use writing::write;
 // The state that orders run on, the tally, how many bytes the last plan has, and how many bytes wait to be written. What the last answer came to: 0, a
 // refusal, 1000 for an error, or 2000 where only names changed. Whether it answers with words, and has brakes; and whether this command has none. Whether something changed since the
 // last save or open, whether there was one, and sums of the name of that file and of what it held. Whether it was told to end.
-#[derive(Drop)]
+#[derive(Clone, Copy)]
 pub struct Desk {
     pub state: State,
     pub tally: Tally,

@@ -1,4 +1,6 @@
 // What a person says to the desk beyond its commands: a line that is one of these, or none of them.
+#![tactic(auto)]
+
 mod files;
 mod words;
 
@@ -7,7 +9,7 @@ use text::{Decimal, same, word_at};
 use words::verb_of;
 
 // What a line asks for. `Nothing`: it is none of these, and the console answers it.
-#[derive(Drop)]
+#[derive(Clone, Copy)]
 pub enum What {
     Nothing,
     Wrong,
@@ -32,7 +34,7 @@ pub enum What {
 
 // A line: whether it says `!`, which takes the brakes off; the word that it takes, from `from` to the place before `to`; its number, where it takes
 // one; and what is wrong with it. And whether it is a line that the console answers too, by numbers alone.
-#[derive(Drop)]
+#[derive(Clone, Copy)]
 pub struct Phrase {
     pub what: What,
     pub old: bool,

@@ -1,4 +1,6 @@
 // Reads plans: document 01, "The plan on file". The public calls are `accept` and `accept_over`.
+#![tactic(auto)]
+
 pub mod agree;
 pub mod code;
 mod expressions;
@@ -20,28 +22,28 @@ ghost use Rattle.plan.specs.Read.{read_plan};
 use table::{LENGTH, Table};
 
 // The reading head: the lent bytes and a place in them.
-#[derive(Drop)]
+#[derive(Clone, Copy)]
 pub struct Head<'a> {
     pub bytes: &'a [u8],
     pub place: usize,
 }
 
 // What reading one number finds.
-#[derive(Drop)]
+#[derive(Clone, Copy)]
 pub enum Field {
     Got { value: u32, next: usize },
     Refused { number: u32, place: usize },
 }
 
 // What reading a tuple finds: its count as the value, and beside it its variables, with zeros behind them.
-#[derive(Drop)]
+#[derive(Clone, Copy)]
 pub struct Tuple {
     pub out: Field,
     pub variables: [u32; 4],
 }
 
 // What reading an expression finds: the next place and the number of the next node.
-#[derive(Drop)]
+#[derive(Clone, Copy)]
 pub enum Nodes {
     Read { next: usize, nodes: usize },
     Refused { number: u32, place: usize },
@@ -49,7 +51,7 @@ pub enum Nodes {
 
 // What reading an activity's own numbers finds: its kind, how many stand directly within it, the next place and the number of the next node; of a scope with
 // fault parts by number only the place of its body, since its numbers stand between its parts.
-#[derive(Drop)]
+#[derive(Clone, Copy)]
 pub enum Own {
     Read {
         kind: u32,
@@ -68,7 +70,7 @@ pub enum Own {
 
 // What reading activities finds: the next place, the number of the next activity and of the next node, and whether the first and whether
 // every one of them is a start form.
-#[derive(Drop)]
+#[derive(Clone, Copy)]
 pub enum Out {
     Read {
         next: usize,
@@ -84,7 +86,7 @@ pub enum Out {
 }
 
 // Whether bytes are a plan.
-#[derive(Drop)]
+#[derive(Clone, Copy)]
 pub enum Answer {
     Accepted {
         variables: u32,

@@ -10,7 +10,7 @@ use plan::table::{COUNT, PLACE, Table, WIDTH};
 use writer::cells::{at_most_19, wide};
 
 // A number and the place after it.
-#[derive(Drop)]
+#[derive(Clone, Copy)]
 pub struct Taken {
     pub value: u32,
     pub next: usize,

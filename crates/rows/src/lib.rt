@@ -1,4 +1,6 @@
 // The rows of a plan: from its bytes to the table that the crate writer writes it from. The public call is `rows`.
+#![tactic(auto)]
+
 mod cut;
 
 ghost use Rattle.std.specs.Prelude.{length, ◌≡◌};

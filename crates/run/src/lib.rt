@@ -1,4 +1,6 @@
 // A run: steps by a list of choices, under a budget that is lent; and the same told, step by step, in a lent buffer.
+#![tactic(auto)]
+
 ghost use Rattle.std.specs.Prelude.{◌+◌, map, ◌≡◌};
 ghost use Rattle.answers.specs.Numbering.{step_number, filled};
 ghost use Rattle.machine.specs.Calls as calls;
@@ -12,7 +14,7 @@ use plan::Answer;
 use plan::table::{LENGTH, Table};
 
 // What a run gives: the steps taken, the refusal or 0, the state and the tally.
-#[derive(Drop)]
+#[derive(Clone, Copy)]
 pub struct Ran {
     pub taken: usize,
     pub refusal: u32,

@@ -1,4 +1,6 @@
 // What the desk says to a person beside its numbers: a sentence for each refusal, what each fault is called, and the help.
+#![tactic(auto)]
+
 mod faults;
 mod help;
 mod refusals;

@@ -1,4 +1,6 @@
 // The seal of bytes, by which what was saved is known to be whole.
+#![tactic(auto)]
+
 ghost use Rattle.std.specs.Prelude.{◌≡◌, ◌<◌};
 ghost use Rattle.seal.specs.Sealed.{seal_of};
 

@@ -7,7 +7,7 @@ use spelling::{
 };
 
 // What an activity is: its kind (of a scope that of one with no undo part), the next row, or what is wrong, and where.
-#[derive(Drop)]
+#[derive(Clone, Copy)]
 pub struct Own {
     pub kind: usize,
     pub row: usize,
@@ -395,7 +395,7 @@ fn own_of(kind: usize, r: usize) -> Own {
 }
 
 // How an activity begins: the kind that its first word tells, 256 for those of one word, and the place after what tells it.
-#[derive(Drop)]
+#[derive(Clone, Copy)]
 pub struct Begun {
     pub kind: usize,
     pub at: usize,

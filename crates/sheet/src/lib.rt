@@ -1,5 +1,7 @@
 // Reads a plan as text, the drawing of the desk with names declared in front, into the rows that the writer takes. The public calls are `read` and
 // `names_of`.
+#![tactic(auto)]
+
 mod activities;
 mod levels;
 
@@ -43,7 +45,7 @@ pub use spelling::{names_of, past_blanks, word_end};
 //     29 a reply is said otherwise, or in an arm or a send to a partner
 //     30 partner, operation and variables of a send to the partner that a variable holds are said otherwise
 // `place` is where in the text, the length of the text where it is no place in it.
-#[derive(Drop)]
+#[derive(Clone, Copy)]
 pub enum Sheet {
     Rows {
         length: usize,
@@ -57,7 +59,7 @@ pub enum Sheet {
 
 // Where the reading stands: the next row, the level of the last activity, how many variables are declared, where the declarations stop, whether they
 // have, the line, what is wrong, and where.
-#[derive(Drop)]
+#[derive(Clone, Copy)]
 pub struct State {
     pub row: usize,
     pub level: usize,

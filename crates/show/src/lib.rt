@@ -1,4 +1,6 @@
 // Shows an activity of a plan: document 01, "One call shows activity k of a plan". The public call is `show`.
+#![tactic(auto)]
+
 ghost use Rattle.std.specs.Prelude.{◌+◌, ◌*◌, ◌-◌, ◌≤◌, ◌<◌, length, get_or, take, drop, ◌≡◌};
 ghost use Rattle.plan.specs.Read.{read_plan};
 ghost use Rattle.show.specs.Shown.{shown_part, shown_start, shown_refusal};

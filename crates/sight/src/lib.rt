@@ -1,11 +1,13 @@
 // What the rows of an order have on offer. No list is built: a choice is counted down.
+#![tactic(auto)]
+
 pub mod counting;
 pub mod memory;
 pub mod one;
 pub mod rows;
 
 // A choice that is counted down over the offer: how much of it is left, and, once it is found, the slot, the activity and the message place.
-#[derive(Drop)]
+#[derive(Clone, Copy)]
 pub struct Pointer {
     pub left: usize,
     pub found: bool,
@@ -15,7 +17,7 @@ pub struct Pointer {
 }
 
 // What was seen of the offer: where the choice stands, and whether something is held.
-#[derive(Drop)]
+#[derive(Clone, Copy)]
 pub struct Sight {
     pub pointer: Pointer,
     pub held: bool,

@@ -1,5 +1,7 @@
 // The desk as it speaks to a person: each answer has its numbers, as the console gives them, and then words with the names of the plan; and what a
 // person says beyond the console's commands (the crate phrases).
+#![tactic(auto)]
+
 mod asking;
 mod finding;
 mod helping;

@@ -10,7 +10,7 @@ use plan::table::{LENGTH, Table};
 use text::Word;
 
 // What stands at a place of a post: a number, the end of the line, a name that nobody has, or trouble.
-#[derive(Drop)]
+#[derive(Clone, Copy)]
 enum Next {
     Number { value: u32, to: usize },
     End,
@@ -19,7 +19,7 @@ enum Next {
 }
 
 // What the words of a post say.
-#[derive(Drop)]
+#[derive(Clone, Copy)]
 enum Reading {
     All { count: usize },
     Unnamed { from: usize, to: usize },

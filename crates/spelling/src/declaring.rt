@@ -10,7 +10,7 @@ use super::marks::{
 };
 
 // A word of the text.
-#[derive(Drop)]
+#[derive(Clone, Copy)]
 pub struct Span {
     pub from: usize,
     pub to: usize,

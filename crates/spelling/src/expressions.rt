@@ -7,7 +7,7 @@ use super::operations::{are_compared, is_first, level, operation_at};
 use super::table::{add, begin};
 
 // The next place and the next row; or what is wrong, by its reason, and where.
-#[derive(Drop)]
+#[derive(Clone, Copy)]
 pub struct Read {
     pub at: usize,
     pub row: usize,
@@ -139,7 +139,7 @@ fn push(stack: &mut [usize; 128], k: usize, what: usize, start: usize) {
 
 // Where the reading of an expression stands: the next place, the next row, how many operations wait, where the rows of the last operand start, whether an
 // operand comes next, whether all is over, and what is wrong.
-#[derive(Drop)]
+#[derive(Clone, Copy)]
 pub struct Turned {
     pub at: usize,
     pub row: usize,

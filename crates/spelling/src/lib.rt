@@ -1,5 +1,7 @@
 // What the lines of a plan as text are made of: words and marks, names, expressions, and the rows that they become. Each function that reads answers the
 // place after what it read; a place is an index into the text.
+#![tactic(auto)]
+
 mod combining;
 mod declaring;
 mod expressions;

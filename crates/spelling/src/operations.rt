@@ -3,7 +3,7 @@
 use super::marks::{after_word, byte_at, more};
 
 // An operation, and the place after it.
-#[derive(Drop)]
+#[derive(Clone, Copy)]
 pub struct Operation {
     pub what: usize,
     pub to: usize,

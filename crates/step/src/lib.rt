@@ -1,4 +1,6 @@
 // A step is taken by its choice: what it answers, the state and the tally afterwards.
+#![tactic(auto)]
+
 mod stepping;
 
 ghost use Rattle.std.specs.Prelude.{◌≡◌};
@@ -12,7 +14,7 @@ use plan::Answer;
 use plan::table::{LENGTH, Table};
 
 // What a step gives: its answer, the state and the tally.
-#[derive(Drop)]
+#[derive(Clone, Copy)]
 pub struct Stepped {
     pub answer: Step,
     pub state: State,
@@ -21,7 +23,7 @@ pub struct Stepped {
 
 // What a step changes: its answer, its order and the messages and the tally afterwards. Where it is refused, the messages and the tally are what they
 // were, and the order is none of the state's.
-#[derive(Drop)]
+#[derive(Clone, Copy)]
 pub struct Change {
     pub answer: Step,
     pub order: Order,

@@ -1,4 +1,6 @@
 // A state with its tally as 12,748 bytes, and back.
+#![tactic(auto)]
+
 mod reading;
 mod writing;
 
@@ -11,7 +13,7 @@ use machine::{Message, State, Tally};
 use order::{Closing, Order};
 
 // What bytes hold: where `refused` is false, a state with its tally; else the state with no plan, with nothing counted.
-#[derive(Drop)]
+#[derive(Clone, Copy)]
 pub struct Kept {
     pub refused: bool,
     pub state: State,

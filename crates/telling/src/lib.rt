@@ -1,4 +1,6 @@
 // What messages and steps are, in words and by the names of the plan. Each function writes at the place `used` of `out`, and answers the place after.
+#![tactic(auto)]
+
 mod letters;
 mod ready;
 mod settled;

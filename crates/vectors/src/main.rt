@@ -1,12 +1,14 @@
 // Runs the outside vectors of plans against the compiled reader, and compares refusal, place and number of activities and arms.
 // Standard input has a vector on each line: bytes in hexadecimal, refusal, place, activities; `#` starts a comment.
+#![tactic(auto)]
+
 use libc::{STDIN_FILENO, STDOUT_FILENO};
 use plan::Answer;
 use plan::table::LENGTH;
 use text::{Decimal, Hex, Line};
 
 // What a vector wants, or what reading its bytes gave.
-#[derive(Drop)]
+#[derive(Clone, Copy)]
 struct Outcome {
     refusal: u64,
     place: u64,
@@ -14,7 +16,7 @@ struct Outcome {
 }
 
 // What became of a line.
-#[derive(Drop)]
+#[derive(Clone, Copy)]
 enum Verdict {
     Comment,
     Agrees,
@@ -23,14 +25,14 @@ enum Verdict {
 }
 
 // What a number of a line is.
-#[derive(Drop)]
+#[derive(Clone, Copy)]
 enum Wanted {
     Number { value: u64, next: usize },
     None,
 }
 
 // The count of lines, of vectors read and of those that agree; how many bytes of the present line are kept; and whether input may follow.
-#[derive(Drop)]
+#[derive(Clone, Copy)]
 struct Tally {
     lines: u64,
     vectors: u64,

@@ -1,5 +1,7 @@
 // Why orders stand as they do: what each waits for, which message nearly fits, what is held and by what, what would be undone; and the messages that
 // nobody can take. Each function writes at the place `used` of `out`, and answers the place after.
+#![tactic(auto)]
+
 mod holding;
 mod near;
 mod rows;

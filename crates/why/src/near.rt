@@ -4,7 +4,7 @@ use machine::Message;
 use plan::table::{COUNT, OPERATION, PARTNER, Table, VARIABLES};
 
 // How many values are not those asked for, and the place of the last such.
-#[derive(Drop)]
+#[derive(Clone, Copy)]
 struct Near {
     many: u32,
     place: usize,

@@ -1,5 +1,7 @@
 // What the engine shows of itself: messages, what is offered, and orders on the drawing of their plan. Each function writes at the
 // place `used` of `out`, and answers the place after.
+#![tactic(auto)]
+
 pub mod doing;
 mod holding;
 mod messages;

@@ -24,9 +24,9 @@ use Rattle.machine.specs.Fit.{Doing, no_step, sends, takes, moves, cuts, closes,
 use Rattle.machine.specs.Offer.{Offer, offering, unless_held, eager, send_held, close_held, step_offers, order_offers, start_of, starts_of, start_offers, free_from, offers_of}
 use Rattle.machine.specs.Calls.{doing_at, choosing, messages_after, order_taking, stepped, taken}
 use Rattle.laws.proofs.Offering.{pick_true}
-use Rattle.either.specs.Independent.{independent, IndependentCodes, independent_at, Offered, order_of, OnlyTakesLook, close_waits, has_step, OwnOrderOffers, stepped_alone, OwnSlotChanges}
-use Rattle.either.proofs.Members.{in_all, all_in, in_map, in-each, some_in, in_some, nth_in, in-nth}
-use Rattle.either.proofs.Ready.{ready-does, eager-does}
+use Rattle.either_order.specs.Independent.{independent, IndependentCodes, independent_at, Offered, order_of, OnlyTakesLook, close_waits, has_step, OwnOrderOffers, stepped_alone, OwnSlotChanges}
+use Rattle.either_order.proofs.Members.{in_all, all_in, in_map, in-each, some_in, in_some, nth_in, in-nth}
+use Rattle.either_order.proofs.Ready.{ready-does, eager-does}
 
 pub independent-codes : IndependentCodes
 unfolding IndependentCodes independent doing_of kind among

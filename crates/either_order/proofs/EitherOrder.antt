@@ -33,8 +33,8 @@ use Rattle.laws.proofs.Offering.{pick_true, chosen-fine}
 use Rattle.laws.proofs.Keeping.{order-limits}
 use Rattle.laws.proofs.Staying.{every_set, step-limits}
 use Rattle.laws.proofs.Doing.{good-room}
-use Rattle.either.specs.Independent.{independent_at, Offered, order_of, has_step, OwnOrderOffers, stepped_alone, OwnSlotChanges, taken_in_turn, EitherOrder, independent_pair, Request10}
-use Rattle.either.proofs.Law.{not-true, has-live, own-order-offers, own-slot-changes}
+use Rattle.either_order.specs.Independent.{independent_at, Offered, order_of, has_step, OwnOrderOffers, stepped_alone, OwnSlotChanges, taken_in_turn, EitherOrder, independent_pair, Request10}
+use Rattle.either_order.proofs.Law.{not-true, has-live, own-order-offers, own-slot-changes}
 
 -- two orders that end are counted in either order, at the ceiling too
 counts-swap : (a b : End) (t : Tally) → count_end a (count_end b t) ≡ count_end b (count_end a t)

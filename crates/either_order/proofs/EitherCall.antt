@@ -15,8 +15,8 @@ use Rattle.machine.specs.declared.Tally.{Tally}
 use Rattle.machine.specs.Limits.{plan_in}
 use Rattle.machine.specs.Offer.{Offer, Offers, offers_of}
 use Rattle.machine.specs.Calls.{Chosen, refused_choice, chosen, nth, choosing, previewed, preview_by, preview, answering, Stepped, taken, step_chosen, step_by, step}
-use Rattle.either.specs.Independent.{taken_in_turn, called_in_turn, InEitherOrder, EitherOrder, independent_pair, CallsInEitherOrder}
-use Rattle.either.proofs.EitherOrder.{apart, request-10}
+use Rattle.either_order.specs.Independent.{taken_in_turn, called_in_turn, InEitherOrder, EitherOrder, independent_pair, CallsInEitherOrder}
+use Rattle.either_order.proofs.EitherOrder.{apart, request-10}
 
 -- a step that is refused answers no 0
 nth-refused : (n : ℕ) (l : List Offer) (c k : ℕ) → nth n l c ≡ refused_choice k → n ≡ k

@@ -15,9 +15,9 @@ use Rattle.machine.specs.Computing.{computing}
 use Rattle.machine.specs.Limits.{by}
 use Rattle.machine.specs.Offer.{Offer, offering, offers_of}
 use Rattle.machine.specs.Calls.{choosing, taken}
-use Rattle.either.specs.Independent.{independent, Offered, EitherOrder}
-use Rattle.either.specs.Examples.{or_sends, or_takes, or_one_order, reached, sending, two_sends, nearly_full, opening, choose_and_take, setting_twice, two_sets, second}
-use Rattle.either.proofs.Members.{nth_in, in_some}
+use Rattle.either_order.specs.Independent.{independent, Offered, EitherOrder}
+use Rattle.either_order.specs.Examples.{or_sends, or_takes, or_one_order, reached, sending, two_sends, nearly_full, opening, choose_and_take, setting_twice, two_sets, second}
+use Rattle.either_order.proofs.Members.{nth_in, in_some}
 
 -- the plan that some bytes spell
 unfoldable plan_of : List ℕ → Plan

@@ -13,7 +13,7 @@ use Rattle.machine.specs.Limits.{plan_in, by}
 use Rattle.machine.specs.Offer.{Offer, offers_of}
 use Rattle.machine.specs.Calls.{doing_at, loaded, post, collect, drop_at, preview, step, Call, posting, collecting, dropping, stepping}
 use Rattle.machine.specs.Computing.{computing}
-use Rattle.either.specs.Independent.{independent_at, is_take, of_different_orders}
+use Rattle.either_order.specs.Independent.{independent_at, is_take, of_different_orders}
 
 -- the state after these calls
 unfoldable pub reached : List Call → State → State
