@@ -1,0 +1,13 @@
+-- `boundary::moonhalyard_collect` meets its contract. Assumes nothing.
+use Rattle.machine.specs.Calls.{collect}
+use Rattle.boundary.proofs.Calling.{handed-short, handed-taken, handed-refused}
+use Rattle.boundary.proofs.moonhalyard_collect.Goals as goal
+
+pub returns-then-message-lt32 : goal.returns-then-message-lt32
+returns-then-message-lt32 c = handed-short collect c.args.state.now c.args.message.now c.if-message-lt32.true
+
+pub returns-then-r-eq0 : goal.returns-then-r-eq0
+returns-then-r-eq0 c = handed-taken collect c.args.state.now c.args.message.now c.if-message-lt32.false c.unpack-k.ensures c.collect-r.ensures c.write_message.ensures.is c.if-r-eq0.true c.pack.ensures.is
+
+pub returns : goal.returns
+returns c = handed-refused collect c.args.state.now c.args.message.now c.if-message-lt32.false c.unpack-k.ensures c.collect-r.ensures c.write_message.ensures.is c.if-r-eq0.false

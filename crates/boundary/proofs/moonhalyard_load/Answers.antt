@@ -1,0 +1,9 @@
+-- `boundary::moonhalyard_load` meets its contract. Assumes nothing.
+use Rattle.boundary.proofs.Calling.{load-taken, load-short}
+use Rattle.boundary.proofs.moonhalyard_load.Goals as goal
+
+pub returns-then-pack : goal.returns-then-pack
+returns-then-pack c = load-taken c.args.plan.now c.args.state.now c.load-r.ensures c.no_tally-none.ensures c.pack.ensures.fits c.pack.ensures.is c.if-pack.true c.pair_of.ensures
+
+pub returns : goal.returns
+returns c = load-short c.args.plan.now c.args.state.now c.load-r.ensures c.no_tally-none.ensures c.pack.ensures.fits c.pack.ensures.is c.if-pack.false c.pair_of-2.ensures

@@ -1,0 +1,9 @@
+-- `boundary::moonhalyard_post` meets its contract. Assumes nothing.
+use Rattle.boundary.proofs.Calling.{post-taken, post-refused}
+use Rattle.boundary.proofs.moonhalyard_post.Goals as goal
+
+pub returns-then-r-eq0 : goal.returns-then-r-eq0
+returns-then-r-eq0 c = post-taken _ c.args.state.now c.unpack-k.ensures c.post-r.ensures c.if-r-eq0.true c.pack.ensures.is
+
+pub returns : goal.returns
+returns c = post-refused _ c.args.state.now c.unpack-k.ensures c.post-r.ensures c.if-r-eq0.false

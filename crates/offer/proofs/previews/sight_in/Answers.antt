@@ -1,0 +1,27 @@
+-- `offer::previews::sight_in` meets its contract. Assumes nothing.
+use borrow.Author.Rules.{rules}
+use Prim.Native.Nat.{◌-◌}
+use Rattle.offer.proofs.Answered.{sees-none, sees-started}
+use Rattle.fit.proofs.Crossed.{crossing-starts, crossing-passes, crossing-done}
+use Rattle.fit.proofs.Fewest.{lowering-starts, lowering-passes, lowering-done}
+use Rattle.offer.proofs.previews.sight_in.Goals as goal
+
+pub loop-i-init : goal.loop-i-init
+loop-i-init c = lowering-starts _ _ _ _ _ _ _ (search rules) (search rules)
+
+pub loop-i-preserved-then-orders-i-eq0 : goal.loop-i-preserved-then-orders-i-eq0
+loop-i-preserved-then-orders-i-eq0 c = lowering-passes (search rules) _ (search rules) c.if-orders-i-eq0.true
+
+pub loop-slot-init : goal.loop-slot-init
+loop-slot-init c = crossing-starts _ _ _ _ _ _ (search rules)
+
+pub loop-slot-preserved-then-orders-slot-eq0 : goal.loop-slot-preserved-then-orders-slot-eq0
+loop-slot-preserved-then-orders-slot-eq0 c = crossing-passes (search rules) _ (search rules) c.if-orders-slot-eq0.true
+
+pub returns-then-waiting-eq0 : goal.returns-then-waiting-eq0
+returns-then-waiting-eq0 c = sees-none (lowering-done c.loop-i.invariant c.loop-i-test.false) c.nothing_seen-part.ensures
+    (crossing-done c.loop-slot.invariant c.loop-slot-test.false) c.if-waiting-eq0.true
+
+pub returns : goal.returns
+returns c = sees-started (lowering-done c.loop-i.invariant c.loop-i-test.false) c.nothing_seen-part.ensures
+    (crossing-done c.loop-slot.invariant c.loop-slot-test.false) c.started_order-order.ensures c.starts.ensures

@@ -1,0 +1,11 @@
+-- `order::marks::cleared` meets its contract. Assumes nothing.
+use mathlib.Core.Path.{◌≡◌}
+use Prim.Native.Nat.{◌-◌}
+use Rattle.order.specs.Begin.{cleared}
+use Rattle.order.proofs.marks.cleared.Given as goal
+
+abbrev pub invariant-loop-i : goal.invariant-loop-i
+invariant-loop-i l = cleared l.initial.i (l.to - l.initial.i) l.initial.m ≡ cleared l.i (l.to - l.i) l.m
+
+abbrev pub decreases-loop-i : goal.decreases-loop-i
+decreases-loop-i l = l.to - l.i

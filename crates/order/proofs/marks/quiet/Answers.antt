@@ -1,0 +1,22 @@
+-- `order::marks::quiet` meets its contract. Assumes nothing.
+use Rattle.order.proofs.MarkReturns.{quiet-far, quiet-done, quiet-stop, quiet_next}
+use mathlib.Core.Path.{refl}
+use Prim.Native.Nat.{◌-◌}
+use Rattle.order.proofs.marks.quiet.Goals as goal
+
+ruleset cases = (quiet-far, quiet-done, quiet-stop, quiet_next)
+
+pub returns-then-to-gt256 : goal.returns-then-to-gt256
+returns-then-to-gt256 c = search cases
+
+pub loop-i-init : goal.loop-i-init
+loop-i-init c = refl
+
+pub returns-then-marks-i-ne-IDLE : goal.returns-then-marks-i-ne-IDLE
+returns-then-marks-i-ne-IDLE c = search cases
+
+pub loop-i-preserved : goal.loop-i-preserved
+loop-i-preserved c = search cases
+
+pub returns : goal.returns
+returns c = search cases

@@ -1,0 +1,9 @@
+-- `plan::accept_over` meets its contract. Assumes nothing.
+use Rattle.plan.proofs.RootReads.{accept-refused, accept-accepted}
+use Rattle.plan.proofs.accept_over.Goals as goal
+
+pub returns-in-Accepted : goal.returns-in-Accepted
+returns-in-Accepted c = accept-accepted _ _ _ _ c.agreed_at-a.ensures c.in-Accepted.is
+
+pub returns-in-Refused : goal.returns-in-Refused
+returns-in-Refused c = accept-refused _ _ _ _ c.agreed_at-a.ensures c.in-Refused.is

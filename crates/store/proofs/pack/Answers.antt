@@ -1,0 +1,13 @@
+-- `store::pack` meets its contract. Assumes nothing.
+use Rattle.store.proofs.Parts.{pack-is, pack-no}
+use borrow.Author.Tests.{eq-eqb, ne_eqb}
+use mathlib.Core.Path.{sym}
+use Rattle.store.proofs.Back.{unpacked-packed}
+use Rattle.machine.proofs.Whole.{state-whole, tally-whole}
+use Rattle.store.proofs.pack.Goals as goal
+
+pub returns-then-out-eq12748 : goal.returns-then-out-eq12748
+returns-then-out-eq12748 c = (sym (eq-eqb _ _ c.if-out-eq12748.true), (pack-is c.args.state c.args.tally c.if-out-eq12748.true c.put_number.ensures c.put_tally.ensures c.put_state.ensures, unpacked-packed c.args.state c.args.tally (state-whole c.args.state _ c.well_formed.0) (tally-whole c.args.tally _ c.well_formed.1.0)))
+
+pub returns : goal.returns
+returns c = (sym (ne_eqb _ _ c.if-out-eq12748.false), (pack-no c.args.state c.args.tally c.args.out.now c.if-out-eq12748.false, unpacked-packed c.args.state c.args.tally (state-whole c.args.state _ c.well_formed.0) (tally-whole c.args.tally _ c.well_formed.1.0)))

@@ -1,0 +1,13 @@
+-- `text::decimals::all_digits` meets its contract. The loop's invariant: the whole keeps the rule exactly if what is left does. Assumes nothing.
+use mathlib.Core.Path.{◌≡◌}
+use Prim.Native.Nat.{◌≤◌, ◌-◌}
+use lib.ListN.{length, drop}
+use Rattle.text.specs.Words.{all}
+use Rattle.text.specs.Decimals.{digit}
+use Rattle.text.proofs.decimals.all_digits.Given as goal
+
+abbrev pub invariant-loop-i : goal.invariant-loop-i
+invariant-loop-i l = (l.i ≤ length l.s) × (all digit l.s ≡ all digit (drop l.i l.s))
+
+abbrev pub decreases-loop-i : goal.decreases-loop-i
+decreases-loop-i l = length l.s - l.i
