@@ -53,15 +53,16 @@ leaf-variable vars s code at z e = rw (ne_eqb _ _ z) e
 leaf : (t : Bool) → (value : ℕ) → Exp
 leaf t value = cond t (constant value) (variable value)
 
-module _ (t : Bool) (x y : Found ℕ) where
-  leaf-found : {value next : ℕ} → cond t x y ≡ found value next
-      → cond t (and_then x (λ v p. found (constant v) p)) (and_then y (λ v p. found (variable v) p)) ≡ found (leaf t value) next
-  unfolding leaf
-  leaf-found = elim t [ true ↦ λ e. rw e | false ↦ λ e. rw e ]
+leaf-found : (t : Bool) (x y : Found ℕ) {value next : ℕ} → cond t x y ≡ found value next
+    → cond t (and_then x (λ v p. found (constant v) p)) (and_then y (λ v p. found (variable v) p)) ≡ found (leaf t value) next
+unfolding leaf
+leaf-found true x y e = rw e
+leaf-found false x y e = rw e
 
-  leaf-refused : {number place : ℕ} → cond t x y ≡ refused number place
-      → cond t (and_then x (λ v p. found (constant v) p)) (and_then y (λ v p. found (variable v) p)) ≡ refused number place
-  leaf-refused = elim t [ true ↦ λ e. rw e | false ↦ λ e. rw e ]
+leaf-refused : (t : Bool) (x y : Found ℕ) {number place : ℕ} → cond t x y ≡ refused number place
+    → cond t (and_then x (λ v p. found (constant v) p)) (and_then y (λ v p. found (variable v) p)) ≡ refused number place
+leaf-refused true x y e = rw e
+leaf-refused false x y e = rw e
 
 leaf-nodes : (t : Bool) (value : ℕ) → nodes_of (leaf t value) ≡ 1
 unfolding leaf nodes_of
@@ -153,9 +154,9 @@ module _ (depth vars : ℕ) (s : List ℕ) (at m : ℕ) (t : List ℕ) {c : Fiel
   pub expression-no-code : (u : List ℕ) {number place : ℕ} → c ≡ Field.Refused number place
       → NodesRead (expression_in depth vars s at) m (Nodes.Refused number place) t u
   unfolding expression_in
-  expression-no-code u o =
+  expression-no-code u {number} {place} o =
       nodes-refused _ m t u
-      (elim depth [ zero ↦ rw (field-no (expression_code_in s at) e o) | suc d ↦ rw (field-no (expression_code_in s at) e o) ])
+      (elim depth as (λ d. expression_in d vars s at ≡ refused number place) [ zero ↦ rw (field-no (expression_code_in s at) e o) | suc d ↦ rw (field-no (expression_code_in s at) e o) ])
 
   module _ {code next : ℕ} (o : c ≡ Got code next) where
     pub expression-deep : (u : List ℕ) → depth ≡ 0 → NodesRead (expression_in depth vars s at) m (Nodes.Refused 6 at) t u
@@ -165,13 +166,15 @@ module _ (depth vars : ℕ) (s : List ℕ) (at m : ℕ) (t : List ℕ) {c : Fiel
     -- one level of the definition
     level-leaf : (depth ≡ 0 → ⊥) → code < 2 → expression_in depth vars s at ≡ leaf_in vars s code next
     unfolding expression_in
-    level-leaf = elim depth [ zero ↦ λ z h. absurd (z refl) | suc d ↦ λ z h. rw (field-got (expression_code_in s at) e o, lt-ltb _ _ h) ]
+    level-leaf = elim depth as (λ d. (d ≡ 0 → ⊥) → code < 2 → expression_in d vars s at ≡ leaf_in vars s code next) [ zero ↦ λ z h. absurd (z refl) | suc d ↦ λ z h. rw (field-got (expression_code_in s at) e o, lt-ltb _ _ h) ]
 
     level-binary : (depth ≡ 0 → ⊥) → 2 ≤ code
         → expression_in depth vars s at
         ≡ and_then (expression_in (depth - 1) vars s next) (λ left p. and_then (expression_in (depth - 1) vars s p) (λ right q. found (binary (operation_of code) left right) q))
     unfolding expression_in
-    level-binary = elim depth [ zero ↦ λ z h. absurd (z refl) | suc d ↦ λ z h. rw (sub-one (suc d), field-got (expression_code_in s at) e o, le-ltb _ _ h) ]
+    level-binary = elim depth as (λ d. (d ≡ 0 → ⊥) → 2 ≤ code
+        → expression_in d vars s at
+        ≡ and_then (expression_in (d - 1) vars s next) (λ left p. and_then (expression_in (d - 1) vars s p) (λ right q. found (binary (operation_of code) left right) q))) [ zero ↦ λ z h. absurd (z refl) | suc d ↦ λ z h. rw (sub-one (suc d), field-got (expression_code_in s at) e o, le-ltb _ _ h) ]
 
     module _ (z : depth ≡ 0 → ⊥) where
       pub expression-no-leaf : (u : List ℕ) {v : Field} {number place : ℕ} → code < 2 → v ≡ field_of (leaf_field vars s code next)

@@ -22,7 +22,7 @@ pub list_own-requires-in-10 : goal.list_own-requires-in-10
 list_own-requires-in-10 c = search cases
 
 pub partner_own-requires : goal.partner_own-requires
-partner_own-requires c = (search rules, message-kind _ c.in_default-1.rest.0.0.0.0.0.0.0.0.0.0.0.0.0.1 c.if-code-lt3.true)
+partner_own-requires c = (search rules, message-kind _ (omega arith) c.if-code-lt3.true)
 
 pub returns-in-0 : goal.returns-in-0
 returns-in-0 c = search cases
@@ -67,7 +67,7 @@ pub returns-in-17 : goal.returns-in-17
 returns-in-17 c = search cases
 
 pub returns-in-1 : goal.returns-in-1
-returns-in-1 c = parts-message _ _ _ _ _ _ _ _ _ _ c.in_default-1.rest.0.0.0.0.0.0.0.0.0.0.0.0.0.1 c.if-code-lt3.true c.partner_own.ensures
+returns-in-1 c = parts-message _ _ _ _ _ _ _ _ _ _ (omega arith) c.if-code-lt3.true c.partner_own.ensures
 
 pub returns-in_default : goal.returns-in_default
-returns-in_default c = parts-asking _ _ _ _ _ _ _ _ _ _ c.in_default-1.rest.0.0.0.0.0.0.0.0.0.0.0.0.0.1 c.if-code-lt3.false c.in_default-1.rest.0.0.0.0.0.0.0.0.0.0.0.0.1 c.in_default-1.rest.0.0.0.0.0.0.0.0.0.0.0.1 c.in_default-1.rest.0.0.0.0.0.0.0.0.0.0.1 c.in_default-1.rest.0.0.0.0.0.0.0.0.0.1 c.in_default-1.rest.0.0.0.0.0.0.0.0.1 c.in_default-1.rest.0.0.0.0.0.0.0.1 c.in_default-1.rest.0.0.0.0.0.0.1 c.in_default-1.rest.0.0.0.0.0.1 c.in_default-1.rest.0.0.0.0.1 c.in_default-1.rest.0.0.0.1 c.in_default-1.rest.0.0.1 c.in_default-1.rest.0.1 c.in_default-1.rest.1 c.asking_receive_own.ensures
+returns-in_default c = parts-asking _ _ _ _ _ _ _ _ _ _ (omega arith) c.if-code-lt3.false (omega arith) (omega arith) (omega arith) (omega arith) (omega arith) (omega arith) (omega arith) (omega arith) (omega arith) (omega arith) (omega arith) (omega arith) (omega arith) c.asking_receive_own.ensures

@@ -42,8 +42,8 @@ activity_at-numbered_scope_at-requires t c = let b : Base c.args.s.now c.args.va
         (
       search scope-place,
       (
-        scope-room c.args.arm c.args.depth c.args.vars (chosen 0 c.args.correlation.now) c.args.s.now c.args.handler c.args.n c.args.at c.args.m _ _ a q b,
-        scope-numbered c.args.arm c.args.depth c.args.vars (chosen 0 c.args.correlation.now) c.args.s.now c.args.handler c.args.n c.args.at c.args.m _ _ a q,
+        scope-room c.args.arm c.args.depth c.args.vars (chosen 0 c.args.correlation.now) c.args.s.now c.args.handler c.args.n c.args.at c.args.m _ _ c.own_at-own.ensures c.in-Numbered.is b,
+        scope-numbered c.args.arm c.args.depth c.args.vars (chosen 0 c.args.correlation.now) c.args.s.now c.args.handler c.args.n c.args.at c.args.m _ _ c.own_at-own.ensures c.in-Numbered.is,
       ),
     )
 
@@ -56,10 +56,10 @@ activity_at-activities_at-all-requires t c = (search room, (search room, (search
 pub activity_at-close_row-requires : goal.activity_at-close_row-requires
 activity_at-close_row-requires t c = let b : Base c.args.s.now c.args.vars c.args.m c.args.at = search rules in
             (
-      own-numbered c.args.arm c.args.depth c.args.vars (chosen 0 c.args.correlation.now) c.args.s.now c.args.handler c.args.n c.args.at c.args.m a q,
+      own-numbered c.args.arm c.args.depth c.args.vars (chosen 0 c.args.correlation.now) c.args.s.now c.args.handler c.args.n c.args.at c.args.m c.own_at-own.ensures c.in-Read.is,
       (
         search room,
-        whole-stop c.args.arm c.args.depth c.args.vars (chosen 0 c.args.correlation.now) c.args.s.now c.args.handler c.args.n c.args.at c.args.m a q (eqb c.in-Read.kind 10)
+        whole-stop c.args.arm c.args.depth c.args.vars (chosen 0 c.args.correlation.now) c.args.s.now c.args.handler c.args.n c.args.at c.args.m c.own_at-own.ensures c.in-Read.is (eqb c.in-Read.kind 10)
             c.levels_below-below-in-Read.result c.later_of-later.result c.activities_at-all.ensures c.in-Read-all.is b,
       ),
     )
@@ -93,7 +93,7 @@ numbered_at-returns-in-Refused-part t c = search part-cases
 
 pub numbered_at-returns-in-Read : goal.numbered_at-returns-in-Read
 numbered_at-returns-in-Read t c = numbers_more c.args.depth c.args.vars (chosen 0 c.args.correlation.now) c.args.s.now c.args.numbers c.args.k c.args.left c.args.row c.args.place c.args.n c.args.at c.args.m _
-    c.if-left-eq0.false c.fault_number_at-f.ensures.is c.in-Got.is _ c.activity_at-part.ensures c.in-Read.is _ _ c.with_number.ensures.is c.with_number.ensures.read c.requires.1.0 c.numbered_at.ensures
+    c.if-left-eq0.false c.fault_number_at-f.ensures.is c.in-Got.is _ c.activity_at-part.ensures c.in-Read.is _ _ c.with_number.ensures.is c.with_number.ensures.read c.requires.0 c.numbered_at.ensures
 
 pub numbered_scope_at-overflow_add-n : goal.numbered_scope_at-overflow_add-n
 numbered_scope_at-overflow_add-n t c = search scope-room-of
@@ -102,7 +102,7 @@ pub numbered_scope_at-numbered_at-rest-requires : goal.numbered_scope_at-numbere
 numbered_scope_at-numbered_at-rest-requires t c = (search scope-room-of, (search scope-room-of, search scope-room-of))
 
 pub numbered_scope_at-close_row-requires : goal.numbered_scope_at-close_row-requires
-numbered_scope_at-close_row-requires t c = (c.requires.1.1, (search scope-room-of, scope-stop c.args.depth c.args.vars (chosen 0 c.args.correlation.now) c.args.s.now c.args.handler c.args.n c.args.at c.args.place c.args.m _ _ c.activity_at-body.ensures c.in-Read.is c.field_at-f.ensures.is c.in-Got.is _ c.numbered_at-rest.ensures c.field_at-f.ensures.fits c.in-Read-rest.is c.requires.1.0))
+numbered_scope_at-close_row-requires t c = (c.requires.1, (search scope-room-of, scope-stop c.args.depth c.args.vars (chosen 0 c.args.correlation.now) c.args.s.now c.args.handler c.args.n c.args.at c.args.place c.args.m _ _ c.activity_at-body.ensures c.in-Read.is c.field_at-f.ensures.is c.in-Got.is _ c.numbered_at-rest.ensures c.field_at-f.ensures.fits c.in-Read-rest.is c.requires.0))
 
 pub numbered_scope_at-returns-in-Refused : goal.numbered_scope_at-returns-in-Refused
 numbered_scope_at-returns-in-Refused t c = search scope-cases
@@ -114,4 +114,4 @@ pub numbered_scope_at-returns-in-Refused-rest : goal.numbered_scope_at-returns-i
 numbered_scope_at-returns-in-Refused-rest t c = search scope-cases
 
 pub numbered_scope_at-returns-in-Read-rest : goal.numbered_scope_at-returns-in-Read-rest
-numbered_scope_at-returns-in-Read-rest t c = scope-whole c.args.depth c.args.vars (chosen 0 c.args.correlation.now) c.args.s.now c.args.handler c.args.n c.args.at c.args.place c.args.m _ _ c.activity_at-body.ensures c.in-Read.is c.field_at-f.ensures.is c.in-Got.is _ c.numbered_at-rest.ensures c.field_at-f.ensures.fits c.in-Read-rest.is _ c.requires.1.0 c.requires.1.1 c.close_row.ensures
+numbered_scope_at-returns-in-Read-rest t c = scope-whole c.args.depth c.args.vars (chosen 0 c.args.correlation.now) c.args.s.now c.args.handler c.args.n c.args.at c.args.place c.args.m _ _ c.activity_at-body.ensures c.in-Read.is c.field_at-f.ensures.is c.in-Got.is _ c.numbered_at-rest.ensures c.field_at-f.ensures.fits c.in-Read-rest.is _ c.requires.0 c.requires.1 c.close_row.ensures

@@ -62,12 +62,12 @@ pub loop-i-init : goal.loop-i-init
 loop-i-init c = (omega arith, (omega arith, refl))
 
 pub returns-then-sum-gt4294967295 : goal.returns-then-sum-gt4294967295
-returns-then-sum-gt4294967295 c = let e = next-sum s c.loop-i.i c.loop-i.sum c.worth.result (omega arith) c.worth.ensures.0 c.loop-i.invariant.1.1 in
+returns-then-sum-gt4294967295 c = let e = next-sum c.args.s.now c.loop-i.i c.loop-i.sum c.worth.result (omega arith) c.worth.ensures.0 c.loop-i.invariant.1.1 in
     large _ c.if-s-eq0.false c.all_digits.ensures (not-false _ c.if-not-all_digits.false)
-    (omega (arith, e, grows (drop (c.loop-i.i + 1) s) (c.loop-i.sum * 10 + c.worth.result)))
+    (omega (arith, e, grows (drop (c.loop-i.i + 1) c.args.s.now) (c.loop-i.sum * 10 + c.worth.result)))
 
 pub loop-i-preserved : goal.loop-i-preserved
-loop-i-preserved c = (omega arith, (omega arith, next-sum s c.loop-i.i c.loop-i.sum c.worth.result (omega arith) c.worth.ensures.0 c.loop-i.invariant.1.1))
+loop-i-preserved c = (omega arith, (omega arith, next-sum c.args.s.now c.loop-i.i c.loop-i.sum c.worth.result (omega arith) c.worth.ensures.0 c.loop-i.invariant.1.1))
 
 pub returns : goal.returns
 returns c = value _ c.if-s-eq0.false c.all_digits.ensures (not-false _ c.if-not-all_digits.false)
