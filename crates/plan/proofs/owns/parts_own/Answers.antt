@@ -1,5 +1,6 @@
 -- `plan::owns::parts_own` meets its contract. Assumes nothing.
 use borrow.Author.Rules.{rules}
+use native.Mathlib.Omega.{arith}
 use Rattle.plan.specs.Nodes.{sets, chooses, repeats, is_sequence, is_flow, is_pick}
 use Rattle.plan.proofs.OwnReads.{message-kind, parts-empty, parts-message, parts-set, parts-raise, parts-leave, parts-choose, parts-repeat, parts-sequence, parts-flow, parts-pick, parts-scope, parts-open, parts-number, parts-numbered, parts_held, parts-asking}
 use Rattle.plan.proofs.owns.parts_own.Goals as goal
@@ -22,7 +23,7 @@ pub list_own-requires-in-10 : goal.list_own-requires-in-10
 list_own-requires-in-10 c = search cases
 
 pub partner_own-requires : goal.partner_own-requires
-partner_own-requires c = (search rules, message-kind _ (omega arith) c.if-code-lt3.true)
+partner_own-requires c = (search rules, message-kind _ (omega arith) (omega arith))
 
 pub returns-in-0 : goal.returns-in-0
 returns-in-0 c = search cases
@@ -67,7 +68,7 @@ pub returns-in-17 : goal.returns-in-17
 returns-in-17 c = search cases
 
 pub returns-in-1 : goal.returns-in-1
-returns-in-1 c = parts-message _ _ _ _ _ _ _ _ _ _ (omega arith) c.if-code-lt3.true c.partner_own.ensures
+returns-in-1 c = parts-message _ _ _ _ _ _ _ _ _ _ (omega arith) (omega arith) c.partner_own.ensures
 
 pub returns-in_default : goal.returns-in_default
-returns-in_default c = parts-asking _ _ _ _ _ _ _ _ _ _ (omega arith) c.if-code-lt3.false (omega arith) (omega arith) (omega arith) (omega arith) (omega arith) (omega arith) (omega arith) (omega arith) (omega arith) (omega arith) (omega arith) (omega arith) (omega arith) c.asking_receive_own.ensures
+returns-in_default c = parts-asking _ _ _ _ _ _ _ _ _ _ (omega arith) (omega arith) (omega arith) (omega arith) (omega arith) (omega arith) (omega arith) (omega arith) (omega arith) (omega arith) (omega arith) (omega arith) (omega arith) (omega arith) (omega arith) c.asking_receive_own.ensures
