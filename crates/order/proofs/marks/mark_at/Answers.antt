@@ -5,4 +5,4 @@ use Rattle.order.proofs.Whole.{order-whole}
 use Rattle.order.proofs.marks.mark_at.Goals as goal
 
 pub returns-else-k-lt256 : goal.returns-else-k-lt256
-returns-else-k-lt256 c = mark-beyond _ c.args.t2 (order-whole c.args.t2 _ c.well_formed.1.0).marks-long (search rules)
+returns-else-k-lt256 c = mark-beyond _ c.args.order (order-whole c.args.order _ c.well_formed.1.0).marks-long (search rules)

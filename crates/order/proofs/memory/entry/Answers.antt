@@ -10,4 +10,4 @@ pub returns-then-i-lt32 : goal.returns-then-i-lt32
 returns-then-i-lt32 c = search cases
 
 pub returns : goal.returns
-returns c = entry-beyond c.args.t1 _ (order-whole c.args.t1 _ c.well_formed.0).remembered-long (search rules)
+returns c = entry-beyond c.args.order _ (order-whole c.args.order _ c.well_formed.0).remembered-long (search rules)

@@ -5,7 +5,7 @@ use native.Mathlib.Numerals.{add-one}
 use native.Mathlib.Omega.{arith}
 use mathlib.Core.Path.{◌≡◌, refl, sym, ◌∙◌}
 use mathlib.Core.Bool.{Bool, true, false}
-use mathlib.Core.List.{List, ◌∷◌}
+use mathlib.Core.List.{List, ◌∷◌, []}
 use Prim.Native.Nat.{ℕ, ◌+◌, ◌-◌, ◌*◌, ◌≤◌, ◌<◌}
 use lib.ListN.{length, get_or, drop, drop_of_length-le}
 use lib.Seq.{drop-cons}
@@ -56,19 +56,19 @@ pub returns-then-s-eq0 : goal.returns-then-s-eq0
 returns-then-s-eq0 c = none _ c.if-s-eq0.true
 
 pub returns-then-not-all_digits : goal.returns-then-not-all_digits
-returns-then-not-all_digits c = other _ c.if-s-eq0.false c.all_digits.ensures (not-true _ c.if-not-all_digits.true)
+returns-then-not-all_digits c = other _ c.if-s-eq0.false c.all_digits.ensures c.if-not-all_digits.true
 
 pub loop-i-init : goal.loop-i-init
 loop-i-init c = (omega arith, (omega arith, refl))
 
 pub returns-then-sum-gt4294967295 : goal.returns-then-sum-gt4294967295
 returns-then-sum-gt4294967295 c = let e = next-sum c.args.s.now c.loop-i.i c.loop-i.sum c.worth.result (omega arith) c.worth.ensures.0 c.loop-i.invariant.1.1 in
-    large _ c.if-s-eq0.false c.all_digits.ensures (not-false _ c.if-not-all_digits.false)
+    large _ c.if-s-eq0.false c.all_digits.ensures c.if-not-all_digits.false
     (omega (arith, e, grows (drop (c.loop-i.i + 1) c.args.s.now) (c.loop-i.sum * 10 + c.worth.result)))
 
 pub loop-i-preserved : goal.loop-i-preserved
 loop-i-preserved c = (omega arith, (omega arith, next-sum c.args.s.now c.loop-i.i c.loop-i.sum c.worth.result (omega arith) c.worth.ensures.0 c.loop-i.invariant.1.1))
 
 pub returns : goal.returns
-returns c = value _ c.if-s-eq0.false c.all_digits.ensures (not-false _ c.if-not-all_digits.false)
+returns c = value _ c.if-s-eq0.false c.all_digits.ensures c.if-not-all_digits.false
     c.loop-i.sum (c.loop-i.invariant.1.1 ∙ value-end _ c.loop-i.i c.loop-i.sum (omega arith)) c.loop-i.invariant.1.0

@@ -11,10 +11,10 @@ pub loop-i-init : goal.loop-i-init
 loop-i-init c = (omega arith, refl)
 
 pub returns-then-not-is_hex_digit : goal.returns-then-not-is_hex_digit
-returns-then-not-is_hex_digit c = sym (c.loop-i.invariant.1 ∙ all-stop hex_digit _ c.loop-i.i (omega arith) (sym c.is_hex_digit.ensures ∙ not-true _ c.if-not-is_hex_digit.true))
+returns-then-not-is_hex_digit c = sym (c.loop-i.invariant.1 ∙ all-stop hex_digit _ c.loop-i.i (omega arith) (sym c.is_hex_digit.ensures ∙ c.if-not-is_hex_digit.true))
 
 pub loop-i-preserved : goal.loop-i-preserved
-loop-i-preserved c = (omega arith, c.loop-i.invariant.1 ∙ all_more hex_digit _ c.loop-i.i (omega arith) (sym c.is_hex_digit.ensures ∙ not-false _ c.if-not-is_hex_digit.false))
+loop-i-preserved c = (omega arith, c.loop-i.invariant.1 ∙ all_more hex_digit _ c.loop-i.i (omega arith) (sym c.is_hex_digit.ensures ∙ c.if-not-is_hex_digit.false))
 
 pub returns : goal.returns
 returns c = sym (c.loop-i.invariant.1 ∙ all_end hex_digit _ c.loop-i.i (omega arith))

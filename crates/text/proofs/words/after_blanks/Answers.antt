@@ -12,13 +12,13 @@ pub loop-i-init : goal.loop-i-init
 loop-i-init c = (omega arith, (omega arith, refl))
 
 pub returns-then-not-is_blank : goal.returns-then-not-is_blank
-returns-then-not-is_blank c = let e = run-stop blank c.args.s.now c.loop-i.i (omega arith) (sym c.is_blank.ensures ∙ not-true _ c.if-not-is_blank.true) in
-    (omega (arith, e, c.loop-i.invariant.1.1), (omega arith, omega arith))
+returns-then-not-is_blank c = let e = run-stop blank c.args.s.now c.loop-i.i (omega arith) (sym c.is_blank.ensures ∙ c.if-not-is_blank.true) in
+    record { value = omega (arith, e, c.loop-i.invariant.1.1); lower_bound = omega arith, omega arith }
 
 pub loop-i-preserved : goal.loop-i-preserved
-loop-i-preserved c = let e = run_more blank c.args.s.now c.loop-i.i (omega arith) (sym c.is_blank.ensures ∙ not-false _ c.if-not-is_blank.false) in
+loop-i-preserved c = let e = run_more blank c.args.s.now c.loop-i.i (omega arith) (sym c.is_blank.ensures ∙ c.if-not-is_blank.false) in
     (omega arith, (omega arith, omega (arith, e, c.loop-i.invariant.1.1)))
 
 pub returns : goal.returns
 returns c = let e = run_end blank c.args.s.now c.loop-i.i (omega arith) in
-    (omega (arith, e, c.loop-i.invariant.1.1), (omega arith, omega arith))
+    record { value = omega (arith, e, c.loop-i.invariant.1.1); lower_bound = omega arith, omega arith }
