@@ -4,7 +4,7 @@ use mathlib.Core.List.{List}
 use lib.ListN.{length}
 use mir.Val.{Val}
 use denote.Laws.{Is}
-use denote.Struct.Declared.{row, field}
+use denote.Struct.Declared.{row}
 use Rattle.order.specs.contracts.Order as order
 use Rattle.order.proofs.Whole.{Each, Word, Long, array_of, bytes_of, words_of, WholeOrder, order-whole}
 use Rattle.machine.specs.declared.Message.{Message}
@@ -52,8 +52,8 @@ message-whole m vs p =
 pub state-whole : (s : State) (vs : List Val) → Is (row state.the_type) s vs → WholeState s
 state-whole s vs p =
     let a = p.1.1 in
-    let o = array_of (field order.the_type) WholeOrder order-whole 16 s.orders _ a.1.1.0 in
-    let m = array_of (field message.the_type) WholeMessage message-whole 64 s.messages _ a.1.1.1.0 in
+    let o = array_of (row order.the_type) WholeOrder order-whole 16 s.orders _ a.1.1.0 in
+    let m = array_of (row message.the_type) WholeMessage message-whole 64 s.messages _ a.1.1.1.0 in
     record {
       plan-long = bytes_of 4096 s.plan _ a.0;
       length-fits = a.1.0.1;

@@ -28,7 +28,7 @@ pub returns-else-begin-end-clause-is : goal.returns-else-begin-end-clause-is
 returns-else-begin-end-clause-is c = search lines
 
 pub returns-else-rest-stop : goal.returns-else-rest-stop
-returns-else-rest-stop c = record { is = search lines; inside = omega arith, omega arith }
+returns-else-rest-stop c = record { is = search lines; inside = (omega arith, omega arith) }
 
 pub returns-else-rest-stop-2-clause-is : goal.returns-else-rest-stop-2-clause-is
 returns-else-rest-stop-2-clause-is c = search lines

@@ -15,3 +15,6 @@ loop-k-preserved-then-table-k-eq-ARM c = search cases
 
 pub returns : goal.returns
 returns c = search cases
+
+pub loop-k-preserved : goal.loop-k-preserved
+loop-k-preserved c = search cases

@@ -1,8 +1,8 @@
 -- `listing::whole::list_in` meets its contract. Assumes nothing.
 use borrow.Author.Rules.{rules}
 use Prim.Native.Nat.{◌-◌}
-use Rattle.fit.proofs.Crossed.{crossing-starts, crossing-passes, crossing-done}
-use Rattle.fit.proofs.Fewest.{lowering-starts, lowering-passes, lowering-done}
+use Rattle.fit.proofs.Crossed.{crossing-starts, crossing-passes, crossing-done, crossing-again}
+use Rattle.fit.proofs.Fewest.{lowering-starts, lowering-passes, lowering-done, lowering-again}
 use Rattle.listing.proofs.Asked.{lists-by}
 use Rattle.listing.proofs.whole.list_in.Goals as goal
 
@@ -21,3 +21,9 @@ loop-slot-preserved-then-orders-slot-eq0 c = (crossing-passes (search rules) _ (
 pub returns : goal.returns
 returns c = lists-by (lowering-done c.loop-i.invariant c.loop-i-test.false) (crossing-done c.loop-slot.invariant.0 c.loop-slot-test.false)
     c.started_order-order.ensures c.list_starts.ensures
+
+pub loop-i-preserved : goal.loop-i-preserved
+loop-i-preserved c = lowering-again (search rules) _ (search rules) c.least_slot.ensures
+
+pub loop-slot-preserved : goal.loop-slot-preserved
+loop-slot-preserved c = (crossing-again (search rules) _ (search rules) c.list_slot-part.ensures, search rules)

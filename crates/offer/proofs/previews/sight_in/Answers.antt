@@ -2,8 +2,8 @@
 use borrow.Author.Rules.{rules}
 use Prim.Native.Nat.{◌-◌}
 use Rattle.offer.proofs.Answered.{sees-none, sees-started}
-use Rattle.fit.proofs.Crossed.{crossing-starts, crossing-passes, crossing-done}
-use Rattle.fit.proofs.Fewest.{lowering-starts, lowering-passes, lowering-done}
+use Rattle.fit.proofs.Crossed.{crossing-starts, crossing-passes, crossing-done, crossing-again}
+use Rattle.fit.proofs.Fewest.{lowering-starts, lowering-passes, lowering-done, lowering-again}
 use Rattle.offer.proofs.previews.sight_in.Goals as goal
 
 pub loop-i-init : goal.loop-i-init
@@ -25,3 +25,9 @@ returns-then-waiting-eq0 c = sees-none (lowering-done c.loop-i.invariant c.loop-
 pub returns : goal.returns
 returns c = sees-started (lowering-done c.loop-i.invariant c.loop-i-test.false) c.nothing_seen-part.ensures
     (crossing-done c.loop-slot.invariant c.loop-slot-test.false) c.started_order-order.ensures c.starts.ensures
+
+pub loop-i-preserved : goal.loop-i-preserved
+loop-i-preserved c = lowering-again (search rules) _ (search rules) c.least_slot.ensures
+
+pub loop-slot-preserved : goal.loop-slot-preserved
+loop-slot-preserved c = crossing-again (search rules) _ (search rules) c.offer_slot-part.ensures

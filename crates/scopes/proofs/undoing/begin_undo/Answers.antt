@@ -24,3 +24,6 @@ returns-then-has_undo c = search cases
 
 pub returns : goal.returns
 returns c = search cases
+
+pub loop-j-preserved : goal.loop-j-preserved
+loop-j-preserved c = search deeper

@@ -17,3 +17,6 @@ loop-k-preserved-then-open_at c = looking-opens c.loop-k.invariant c.loop-k-test
 
 pub returns : goal.returns
 returns c = search cases
+
+pub loop-k-preserved : goal.loop-k-preserved
+loop-k-preserved c = search cases

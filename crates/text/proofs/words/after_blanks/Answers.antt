@@ -13,7 +13,7 @@ loop-i-init c = (omega arith, (omega arith, refl))
 
 pub returns-then-not-is_blank : goal.returns-then-not-is_blank
 returns-then-not-is_blank c = let e = run-stop blank c.args.s.now c.loop-i.i (omega arith) (sym c.is_blank.ensures ∙ c.if-not-is_blank.true) in
-    record { value = omega (arith, e, c.loop-i.invariant.1.1); lower_bound = omega arith, omega arith }
+    record { value = omega (arith, e, c.loop-i.invariant.1.1); lower_bound = (omega arith, omega arith) }
 
 pub loop-i-preserved : goal.loop-i-preserved
 loop-i-preserved c = let e = run_more blank c.args.s.now c.loop-i.i (omega arith) (sym c.is_blank.ensures ∙ c.if-not-is_blank.false) in
@@ -21,4 +21,4 @@ loop-i-preserved c = let e = run_more blank c.args.s.now c.loop-i.i (omega arith
 
 pub returns : goal.returns
 returns c = let e = run_end blank c.args.s.now c.loop-i.i (omega arith) in
-    record { value = omega (arith, e, c.loop-i.invariant.1.1); lower_bound = omega arith, omega arith }
+    record { value = omega (arith, e, c.loop-i.invariant.1.1); lower_bound = (omega arith, omega arith) }

@@ -14,4 +14,4 @@ unfolding word_at
 joined s at a f t e g h = rw (h, g, e)
 
 pub returns : goal.returns
-returns c = record { is = joined _ _ _ _ _ c.least-start.ensures c.after_blanks-from.ensures.value c.after_solid-to.ensures.value; inside = omega arith, omega arith }
+returns c = record { is = joined _ _ _ _ _ c.least-start.ensures c.after_blanks-from.ensures.value c.after_solid-to.ensures.value; inside = (omega arith, omega arith) }
