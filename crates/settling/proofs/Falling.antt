@@ -619,6 +619,7 @@ mutual
   among-falls : {f : ℕ → ℕ} {h r b : Bool} {l : Acts} {c : ℕ} → FormedIn h r l → KnowsIn f l c → (p : Bool) (q t : ℕ) (o : Order) → WaitsIn o.marks l c t b → is_take (doing_among l c t) ≡ true
       → (r && is_part l c t) ≡ false
       → Fell f h c (end_with l c t) o (step_among in_place l p q c t o)
+  among-falls {f = f} {b = b} {c = c} (formed-none {h = h} {r = r}) _ p q t o x i d = elim x [ ]
   among-falls {f} {h} {r} (formed-more {a = a} {l = l} x y) (knows_more {c = c} kx ky) p q t o (waits-first u w) i d =
       among-as f h (more a l) p q c t o (first-end a l c t u) (first-among p q a l c t o u) (step_falls x kx (cond p c q) t o w (take-as (doing-among a l c t u) i) (deep-first r l c t x d))
   among-falls {f} {h} {r} (formed-more {a = a} {l = l} x y) (knows_more {c = c} kx ky) p q t o (waits-later u w) i d =
