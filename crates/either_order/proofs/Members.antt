@@ -80,7 +80,7 @@ pub record Comes (n : ℕ) (l : List Offer) (x : Offer) : Type 0 where
   pub choice : ℕ
   pub is : nth n l choice ≡ chosen x
 
-pub in-nth : (n : ℕ) {l : List Offer} {x : Offer} → Memᴰ x l → Comes n l x
+pub in-nth : (n : ℕ) {x : Offer} {l : List Offer} → Memᴰ x l → Comes n l x
 unfolding nth
 in-nth n (Memᴰ.head e) = record { choice = 0; is = ap chosen (sym e) }
 in-nth n (Memᴰ.tail m) = let r = in-nth n m in record { choice = suc r.choice; is = r.is }

@@ -41,7 +41,7 @@ use Rattle.undoing.proofs.Waiting.{opens, Waits, waits-itself, waits-within, Wai
 use Rattle.undoing.proofs.Scoping.{Acted, RunAs, StopAs, UndoAs, undoes-mark}
 use Rattle.undoing.proofs.Combining.{arms-held, arms_none, Idly, idly-same, idly-runs, combines-idly}
 use Rattle.undoing.proofs.Stepping.{PartOf, through-is, awake-first, plain-performs, steps, steps_all, steps-stopped, steps-stopped-in, steps-undoing, steps-undoing-in, steps-part, held-itself, opens-held, stopped-part-not, undoing-part-not, body-step, fault-step, undo-step, Whole, Its}
-use Rattle.undoing.proofs.Truly.{no-pick, Arms, Knows, knows, KnowsIn, knows_more}
+use Rattle.undoing.proofs.Truly.{no-pick, Arms, Knows, knows, KnowsIn, knows_more, knows-none}
 use Rattle.undoing.proofs.Lasting.{is_raising, KnowsEach, each-knows}
 use Rattle.undoing.proofs.Entire.{Named, turn-starts}
 use Rattle.undoing.proofs.Entering.{scope-general, step-at}
@@ -228,7 +228,7 @@ pub stood-nth : {p : Plan} {l : Acts} {c : ℕ} → StoodIn p l c → (i : ℕ) 
 unfolding part part_at count
 stood-nth {l = none} w i h = absurd (omega arith)
 stood-nth {l = more a l} w zero h = stood-first w
-stood-nth {l = more a l} w (suc i) h = stood-nth (stood-later w) i (omega arith)
+stood-nth {l = more a l} w (suc i) h = stood-nth {l = l} (stood-later w) i (omega arith)
 
 -- it stands in the body of a scope with no undo part that has turned
 abbrev pub is_handed : Plan → List ℕ → (activity : ℕ) → Bool
@@ -284,6 +284,7 @@ module _ (p : Plan) (actor : Actor) (f : ℕ → ℕ) (t : ℕ) (o : Order) (A :
   -- what follows in a sequence is quiet
   pub after-fresh : {l : Acts} {c : ℕ} {b : Bool} → KnowsIn f l c → Arms false l → WaitsIn o.marks l c t b → b ≡ false → One o.marks l c → (ns : List ℕ) → Newly (begin_after l c t ns).log
   unfolding begin_after
+  after-fresh {b = b} (knows-none {c = c}) r x13 e _ ns = elim x13 [ ]
   after-fresh (knows_more {a = act own v} {l} {c} x y) r (waits-first h w) e (one-here n q) ns =
       let s = turn-starts f y r.1 ns in
       subst (λ (z : Begun). Newly z.log) (sym (first-of (ltb t (c + size (act own v))) (begin_in_turn l (c + size (act own v)) ns) (begin_after l (c + size (act own v)) t ns) (begin_after (more (act own v) l) c t ns) refl (lt-ltb t (c + size (act own v)) h)))

@@ -9,7 +9,7 @@ use lib.ListN.{length, get_or, length-set}
 use lib.Seq.{get_or-set_same}
 use lib.Dec.{eqb}
 use borrow.Author.Tests.{eqb-true, eq-eqb, ne_eqb, lt-ltb, le-ltb}
-use Rattle.plan.specs.Tree.{Own, empty, send, receive, set as setting, raise, leave, choose, repeat, sequence, flow, pick, scope, arm, kind, Act, act, Acts, more, Plan, size, sizes, count, is_pick, is_scope}
+use Rattle.plan.specs.Tree.{Own, empty, send, receive, set as setting, raise, leave, choose, repeat, sequence, flow, pick, scope, arm, kind, Act, act, Acts, more, Plan, size, sizes, count, is_pick, is_scope, none}
 use Rattle.order.specs.declared.Order.{Order}
 use Rattle.order.specs.Lists.{some, only}
 use Rattle.order.specs.State.{active, inside, binding, mark_at, marked}
@@ -553,6 +553,7 @@ mutual
   due-left (act (arm x y vs) within) k t b w e r h = absurd (false≢true h)
 
   due-turn : {ms : List ℕ} (l : Acts) (c t : ℕ) (b : Bool) → WaitsIn ms l c t b → b ≡ false → One ms l c → some (eqb t) (surely_among l c) ≡ true → some (eqb t) (left_in_turn l c ms) ≡ true
+  due-turn {ms = ms} none c t b x12 e _ h = elim x12 [ ]
   due-turn {ms} (more a l) c t b (waits-first z w) e (one-here r q) h =
       rw (
         loud-told a c ms r,

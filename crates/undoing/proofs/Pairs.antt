@@ -139,7 +139,7 @@ pair : {n e : ℕ} (before l : List Ready) → Before n before → Asc n e l →
 unfolding clash_after every some
 pair before [] b (asc-none x) = refl
 pair {n} {e} before (r ∷ l) b (asc-more x y) =
-    go (is_second before r.step) refl (pair (r ∷ before) l (before_more (omega arith) (before-later (omega (arith, x)) b)) y)
+    go (is_second before r.step) refl (pair {n = r.activity + 1} (r ∷ before) l (before_more (omega arith) (before-later (omega (arith, x)) b)) y)
   where
     first : higher before (r ∷ l) r ≡ is_second before r.step
     first = higher-first before r l x b y

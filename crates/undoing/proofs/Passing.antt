@@ -172,6 +172,7 @@ module _ (f : ℕ → ℕ) where
     run-loud-so {ms} (knows e n r y) (run-turned {xs} {v} {k = k} d) = loud k (omega arith) (omega arith) (ap lasts e ∙ scope-lasts xs v) (decide (eqb (get_or ms k 0) idle) (λ z. absurd (turned-not-rest d (eqb-true (get_or ms k 0) idle z))) (λ z. z))
 
     one-loud-so : {ms : List ℕ} {l : Acts} {c : ℕ} → KnowsIn f l c → One ms l c → Loud ms c (sizes l)
+    one-loud-so {ms = ms} (knows-none {c = c}) x9 = elim x9 [ ]
     one-loud-so (knows_more x y) (one-here r q) = loud-wider (run-loud-so x r) (omega arith) (omega arith)
     one-loud-so (knows_more x y) (one_later q r) = loud-wider (one-loud-so y r) (omega arith) (omega arith)
 

@@ -29,8 +29,8 @@ use Rattle.undoing.proofs.Parts.{both, decide, only-append, same-swap, map-appen
 use Rattle.undoing.proofs.Choices.{general-is}
 use Rattle.undoing.proofs.Accounts.{Phase, live, heals, phase, Known}
 use Rattle.undoing.proofs.Moves.{Spot, unchanged, move-close, RunIn, runner_at, Before}
-use Rattle.undoing.proofs.Marks.{run-loud, trio, spread, Agree, Quiet, Kept, holding, Nth, Run, run-awaits, run-one, run-all, run-body, run-done, run-turned, One, one-here, one_later, All, all-run, all_quiet, Turned, turned-waits, turned-undoes, turned-heals, turned-not-open, Stopped, stopped-part, stopped-quiet, stopped-scope, StoppedIn, stopped_more, Undoing, undoing-part, undoing-scope, UndoingIn, undoing-here, undoing-later, able-quiet, able-run, StoppableIn, able-more, quiet-part, quiet-agree, quiet-join, agree-below, agree-above, kept-wider, kept_set, run_agree, all-agree, stopped-agree, stopped-in-agree, quiet-stoppable, all-stoppable, undoing-through, turned-not-rest}
-use Rattle.undoing.proofs.Orders.{list_of, moment_of, Does, does-one, plain-marked, Fit, fit-marked, bare, bare_in, inner_at, least, Sits, sits-part, sits-scope, SitsIn, sits-more, Remedy, remedy, remedy-names, remedy-bare, runner-kept, Healers, heals-by, heals-all, Rest, rest-undo, rest-none}
+use Rattle.undoing.proofs.Marks.{run-loud, trio, spread, Agree, Quiet, Kept, holding, Nth, Run, run-awaits, run-one, run-all, run-body, run-done, run-turned, One, one-here, one_later, All, all-run, all_quiet, Turned, turned-waits, turned-undoes, turned-heals, turned-not-open, Stopped, stopped-part, stopped-quiet, stopped-scope, StoppedIn, stopped_more, Undoing, undoing-part, undoing-scope, UndoingIn, undoing-here, undoing-later, able-quiet, able-run, StoppableIn, able-more, quiet-part, quiet-agree, quiet-join, agree-below, agree-above, kept-wider, kept_set, run_agree, all-agree, stopped-agree, stopped-in-agree, quiet-stoppable, all-stoppable, undoing-through, turned-not-rest, stopped_none}
+use Rattle.undoing.proofs.Orders.{list_of, moment_of, Does, does-one, plain-marked, Fit, fit-marked, bare, bare_in, inner_at, least, Sits, sits-part, sits-scope, SitsIn, sits-more, Remedy, remedy, remedy-names, remedy-bare, runner-kept, Healers, heals-by, heals-all, Rest, rest-undo, rest-none, sits-none}
 use Rattle.undoing.proofs.Remedies.{part-from, part-to, part-order, undo-from, nth-there, nth-run, nth-goes, nth-ends, nth-below, nth-above, undoer, chosen-most, choice-on}
 use Rattle.undoing.proofs.Beginning.{Begins, quiet-set, quiet-cons}
 use Rattle.undoing.proofs.Seats.{Seat, remembering-closings, inside-rest, quiet-inner, quiet-inner-in, inner-is, is_for_name, bodies-apart, remembered-list, mark-kept}
@@ -412,6 +412,7 @@ module _ (p : Plan) (actor : Actor) where
       → Quiet ms c (sizes l) → Quiet o.marks c (sizes l)
       → c + sizes l ≤ length o.marks → Fit x o → (Acted c (sizes l) o (OneAs p l c t o) (step_among actor l false y₀ c t o)) × (is_part l c t ≡ true) × (b ≡ true)
   unfolding size is_part
+  arms-steps {ms = ms} {b = b} (sits-none {c = c}) y₀ t o x23 q q₁ m f = elim x23 [ ]
   arms-steps (sits-more {q = x} {a} {l} {c} s y) y₀ t o (waits-first h w) q q₁ m f =
       let r = arm-steps s y₀ t o w (quiet-part q (omega arith) (omega arith)) (quiet-part q₁ (omega arith) (omega arith)) (omega arith) f in (
         subst (λ (z : Outcome). Acted c (size a + sizes l) o (OneAs p (more a l) c t o) z) (sym (among-is actor a l y₀ c t o true (lt-ltb t (c + size a) h)))
@@ -961,6 +962,7 @@ module _ (p : Plan) (actor : Actor) where
 
   pub stopped-part-not : {ms : List ℕ} {l : Acts} {c t : ℕ} {b : Bool} → StoppedIn ms l c → WaitsIn ms l c t b → b ≡ false → is_part l c t ≡ false
   unfolding is_part
+  stopped-part-not {ms = ms} {t = t} {b = b} (stopped_none {c = c}) x7 f = elim x7 [ ]
   stopped-part-not (stopped_more {a} {l} {c} x y) (waits-first {t = t} h w) f =
       rw (ne_eqb c t (omega (arith, stopped-waits x w f)), not-part l (c + size a) t h)
   stopped-part-not (stopped_more {a} {l} {c} x y) (waits-later {t = t} h w) f =
