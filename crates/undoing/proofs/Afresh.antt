@@ -191,7 +191,7 @@ module _ (p : Plan) (f : ℕ → ℕ) (A : ℕ → Type 0) (ms : List ℕ) where
       run-calm (sits-scope {xs} {v = false} {n} {c} {ns} {b} {f = g} {u} {k} kn d i sb y) (run-turned e) = calm-through (excuse-calm sb (ex.at xs k n ns b g u kn (turned-is e)))
 
       one-calm : {x : Place} {l : Acts} {c : ℕ} → SitsIn p x l c → One ms l c → CalmIn l c
-      one-calm (sits-none {q = q} {c = c}) x13 = elim x13 [ ]
+      one-calm (sits-none {q = q} {c = c}) z = elim z [ ]
       one-calm (sits-more s y) (one-here r q) = calm_more (run-calm s r) (quiet-calm-in y q)
       one-calm (sits-more s y) (one_later q r) = calm_more (quiet_calm s q) (one-calm y r)
 

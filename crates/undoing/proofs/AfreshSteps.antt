@@ -31,7 +31,7 @@ use Rattle.undoing.proofs.Accounts.{Phase, waits, heals, phase, phase-faulty}
 use Rattle.undoing.proofs.Places.{first-of, second-of}
 use Rattle.undoing.proofs.Moves.{Spot, runner_at}
 use Rattle.undoing.proofs.Marks.{trio, Agree, Quiet, Run, run-awaits, run-one, run-all, run-body, run-done, run-turned, One, one-here, one_later, All, all-run, all_quiet, Nth, Turned, turned-waits, turned-undoes, turned-heals, Stopped, stopped-part, stopped-quiet, stopped-scope, StoppedIn, stopped_more, Stoppable, stoppable-agree, Undoing, undoing-part, undoing-scope, undoing-through, UndoingIn, undoing-here, undoing-later, quiet-part, agree-above, agree-below, stopped-agree, stopped-in-agree, turned-not-open, turned-not-rest, not-open}
-use Rattle.undoing.proofs.Orders.{Fit, inner_at, Sits, sits-part, sits-scope, SitsIn, sits-more, Remedy, remedy, Healers, heals-by, heals-all, Rest, rest-undo, rest-none}
+use Rattle.undoing.proofs.Orders.{Fit, inner_at, Sits, sits-part, sits-scope, SitsIn, sits-more, Remedy, remedy, Healers, heals-by, heals-all, Rest, rest-undo, rest-none, sits-none}
 use Rattle.undoing.proofs.Seats.{Seat, mark-kept, marking-mark, marking-agree, marking-length, inner-is, stopped-rests, stopped-rests-in}
 use Rattle.undoing.proofs.Choices.{general-is}
 use Rattle.undoing.proofs.Remedies.{part-from, part-to, nth-there, nth-run, undoer, chosen_on}
@@ -284,7 +284,7 @@ module _ (p : Plan) (actor : Actor) (f : ℕ → ℕ) (t : ℕ) (o : Order) (A :
   -- what follows in a sequence is quiet
   pub after-fresh : {l : Acts} {c : ℕ} {b : Bool} → KnowsIn f l c → Arms false l → WaitsIn o.marks l c t b → b ≡ false → One o.marks l c → (ns : List ℕ) → Newly (begin_after l c t ns).log
   unfolding begin_after
-  after-fresh {b = b} (knows-none {c = c}) r x13 e _ ns = elim x13 [ ]
+  after-fresh {b = b} (knows-none {c = c}) r z e _ ns = elim z [ ]
   after-fresh (knows_more {a = act own v} {l} {c} x y) r (waits-first h w) e (one-here n q) ns =
       let s = turn-starts f y r.1 ns in
       subst (λ (z : Begun). Newly z.log) (sym (first-of (ltb t (c + size (act own v))) (begin_in_turn l (c + size (act own v)) ns) (begin_after l (c + size (act own v)) t ns) (begin_after (more (act own v) l) c t ns) refl (lt-ltb t (c + size (act own v)) h)))
@@ -509,6 +509,7 @@ module _ (p : Plan) (actor : Actor) (f : ℕ → ℕ) (t : ℕ) (o : Order) (rai
 
     ran-one : {x : Place} {l : Acts} {c : ℕ} → SitsIn p x l c → is_undo x ≡ true → StoodIn p l c → (y₀ : ℕ) → PartOf x y₀ → (b : Bool) → WaitsIn o.marks l c t b → b ≡ false → One o.marks l c → Fit x o → c + sizes l ≤ length o.marks
         → is_over (step_among actor l false y₀ c t o).result ≡ true → News p f (Again p t o.marks raised) o.marks c (sizes l)
+    ran-one (sits-none {q = q} {c = c}) i st y₀ y₁ b z e _ v m d = elim z [ ]
     ran-one (sits-more {q = x} {a} {l} {c} s y) i st y₀ y₁ b (waits-first h w) e (one-here r q) v m d =
         news-join (ran-run s i (stood-first st) y₀ y₁ b w e r v (omega arith) h (subst (λ (z : Outcome). is_over z.result ≡ true) (its-first actor a l y₀ c t o h) d)) (quiet-news p f (Again p t o.marks raised) o.marks q)
     ran-one (sits-more {q = x} {a} {l} {c} s y) i st y₀ y₁ b (waits-later h w) e (one-here r q) v m d = absurd (quiet-waits-in w e q)
@@ -518,6 +519,7 @@ module _ (p : Plan) (actor : Actor) (f : ℕ → ℕ) (t : ℕ) (o : Order) (rai
 
     ran-all : {x : Place} {l : Acts} {c : ℕ} → SitsIn p x l c → is_undo x ≡ true → StoodIn p l c → (y₀ : ℕ) → PartOf x y₀ → (b : Bool) → WaitsIn o.marks l c t b → b ≡ false → All o.marks l c → Fit x o → c + sizes l ≤ length o.marks
         → is_over (step_among actor l false y₀ c t o).result ≡ true → Quiet (step_among actor l false y₀ c t o).order.marks c (sizes l) → News p f (Again p t o.marks raised) o.marks c (sizes l)
+    ran-all (sits-none {q = q} {c = c}) i st y₀ y₁ b w e _ v m d z = elim w [ ]
     ran-all (sits-more {q = x} {a} {l} {c} s y) i st y₀ y₁ b (waits-first h w) e (all-run r q) v m d z =
         let j = its-first actor a l y₀ c t o h in
         news-join (ran-run s i (stood-first st) y₀ y₁ b w e r v (omega arith) h (subst (λ (z : Outcome). is_over z.result ≡ true) j d))
@@ -594,6 +596,7 @@ module _ (p : Plan) (actor : Actor) (f : ℕ → ℕ) (t : ℕ) (o : Order) (rai
 
     undoing-calm-in : {x : Place} {l : Acts} {c : ℕ} → SitsIn p x l c → StoodIn p l c → (y₀ : ℕ) → PartOf x y₀ → (b : Bool) → WaitsIn o.marks l c t b → b ≡ false → UndoingIn o.marks l c → (m₀ : Name) → runner_at (λ n. mark_of n o) (name_of x) (beyond_of x) ≡ m₀ → Fit (undo_of (name_of x) (beyond_of x) (last_of x)) o
         → c + sizes l ≤ length o.marks → is_undone (step_among actor l false y₀ c t o).result ≡ true → CalmIn p f (Again p t o.marks raised) o.marks l c
+    undoing-calm-in (sits-none {q = q} {c = c}) st y₀ y₁ b z e _ m₀ y₂ v m d = elim z [ ]
     undoing-calm-in (sits-more {q = x} {a} {l} {c} s y) st y₀ y₁ b (waits-first h w) e (undoing-here r q) m₀ y₂ v m d =
         calm_more (undoing-calm s (stood-first st) y₀ y₁ b w e r m₀ y₂ v (omega arith) (subst (λ (z : Outcome). is_undone z.result ≡ true) (its-first actor a l y₀ c t o h) d)) (quiet-calm-in p f (Again p t o.marks raised) o.marks y q)
     undoing-calm-in (sits-more {q = x} {a} {l} {c} s y) st y₀ y₁ b (waits-later h w) e (undoing-here r q) m₀ y₂ v m d = absurd (quiet-waits-in w e q)
@@ -722,6 +725,7 @@ module _ (p : Plan) (actor : Actor) (f : ℕ → ℕ) (t : ℕ) (o : Order) (rai
 
     ended-calm-in : {x : Place} {l : Acts} {c : ℕ} → SitsIn p x l c → KnowsIn f l c → StoodIn p l c → (y₀ : ℕ) → PartOf x y₀ → (b : Bool) → WaitsIn o.marks l c t b → b ≡ false → StoppedIn o.marks l c → c + sizes l ≤ length o.marks
         → some is_rash (step_among actor l false y₀ c t o).log ≡ false → inner_runs_in l c (step_among actor l false y₀ c t o).order.marks ≡ false → CalmIn p f (Again p t o.marks raised) o.marks l c
+    ended-calm-in (sits-none {q = q} {c = c}) _ st y₀ y₁ b z e _ m d i = elim z [ ]
     ended-calm-in (sits-more {q = x} {a} {l} {c} s y) (knows_more z n) st y₀ y₁ b (waits-first h w) e (stopped_more r q) m d i =
         let j = its-first actor a l y₀ c t o h in
         let ns = (step_in actor a y₀ c t o).order.marks in
@@ -938,6 +942,7 @@ module _ (p : Plan) (actor : Actor) (f : ℕ → ℕ) (t : ℕ) (o : Order) wher
 
     fresh-one : {x : Place} {l : Acts} {c : ℕ} → SitsIn p x l c → KnowsIn f l c → StoodIn p l c → (y₀ : ℕ) → PartOf x y₀ → (b : Bool) → WaitsIn o.marks l c t b → b ≡ false → One o.marks l c → Fit x o → c + sizes l ≤ length o.marks
         → Its-fresh (step_among actor l false y₀ c t o).log
+    fresh-one (sits-none {q = q} {c = c}) _ st y₀ y₁ b z e _ v m = elim z [ ]
     fresh-one (sits-more {q = x} {a} {l} {c} s y) (knows_more z n) st y₀ y₁ b (waits-first h w) e (one-here r q) v m = first-fresh a l y₀ c h (fresh-run s z (stood-first st) y₀ y₁ b w e r v (omega arith))
     fresh-one (sits-more {q = x} {a} {l} {c} s y) (knows_more z n) st y₀ y₁ b (waits-later h w) e (one-here r q) v m = absurd (quiet-waits-in w e q)
     fresh-one (sits-more {q = x} {a} {l} {c} s y) (knows_more z n) st y₀ y₁ b (waits-first h w) e (one_later q r) v m = absurd (quiet-waits w e q)
@@ -945,6 +950,7 @@ module _ (p : Plan) (actor : Actor) (f : ℕ → ℕ) (t : ℕ) (o : Order) wher
 
     fresh-all : {x : Place} {l : Acts} {c : ℕ} → SitsIn p x l c → KnowsIn f l c → StoodIn p l c → (y₀ : ℕ) → PartOf x y₀ → (b : Bool) → WaitsIn o.marks l c t b → b ≡ false → All o.marks l c → Fit x o → c + sizes l ≤ length o.marks
         → Its-fresh (step_among actor l false y₀ c t o).log
+    fresh-all (sits-none {q = q} {c = c}) _ st y₀ y₁ b z e _ v m = elim z [ ]
     fresh-all (sits-more {q = x} {a} {l} {c} s y) (knows_more z n) st y₀ y₁ b (waits-first h w) e (all-run r q) v m = first-fresh a l y₀ c h (fresh-run s z (stood-first st) y₀ y₁ b w e r v (omega arith))
     fresh-all (sits-more {q = x} {a} {l} {c} s y) (knows_more z n) st y₀ y₁ b (waits-first h w) e (all_quiet q r) v m = absurd (quiet-waits w e q)
     fresh-all (sits-more {q = x} {a} {l} {c} s y) (knows_more z n) st y₀ y₁ b (waits-later h w) e (all-run r q) v m = later-fresh a l y₀ c h (fresh-all y n (stood-later st) y₀ y₁ b w e q v (omega arith))
@@ -964,6 +970,7 @@ module _ (p : Plan) (actor : Actor) (f : ℕ → ℕ) (t : ℕ) (o : Order) wher
 
     fresh-stopped-in : {x : Place} {l : Acts} {c : ℕ} → SitsIn p x l c → KnowsIn f l c → StoodIn p l c → (y₀ : ℕ) → PartOf x y₀ → (b : Bool) → WaitsIn o.marks l c t b → b ≡ false → StoppedIn o.marks l c → c + sizes l ≤ length o.marks
         → Its-fresh (step_among actor l false y₀ c t o).log
+    fresh-stopped-in (sits-none {q = q} {c = c}) _ st y₀ y₁ b z e _ m = elim z [ ]
     fresh-stopped-in (sits-more {q = x} {a} {l} {c} s y) (knows_more z n) st y₀ y₁ b (waits-first h w) e (stopped_more r q) m = first-fresh a l y₀ c h (fresh-stopped s z (stood-first st) y₀ y₁ b w e r (omega arith))
     fresh-stopped-in (sits-more {q = x} {a} {l} {c} s y) (knows_more z n) st y₀ y₁ b (waits-later h w) e (stopped_more r q) m = later-fresh a l y₀ c h (fresh-stopped-in y n (stood-later st) y₀ y₁ b w e q (omega arith))
 
@@ -981,6 +988,7 @@ module _ (p : Plan) (actor : Actor) (f : ℕ → ℕ) (t : ℕ) (o : Order) wher
 
     fresh-undoing-in : {x : Place} {l : Acts} {c : ℕ} → SitsIn p x l c → KnowsIn f l c → StoodIn p l c → (y₀ : ℕ) → PartOf x y₀ → (b : Bool) → WaitsIn o.marks l c t b → b ≡ false → UndoingIn o.marks l c → (m₀ : Name) → runner_at (λ n. mark_of n o) (name_of x) (beyond_of x) ≡ m₀ → Fit (undo_of (name_of x) (beyond_of x) (last_of x)) o
         → c + sizes l ≤ length o.marks → Its-fresh (step_among actor l false y₀ c t o).log
+    fresh-undoing-in (sits-none {q = q} {c = c}) _ st y₀ y₁ b z e _ m₀ y₂ v m = elim z [ ]
     fresh-undoing-in (sits-more {q = x} {a} {l} {c} s y) (knows_more z n) st y₀ y₁ b (waits-first h w) e (undoing-here r q) m₀ y₂ v m = first-fresh a l y₀ c h (fresh-undoing s z (stood-first st) y₀ y₁ b w e r m₀ y₂ v (omega arith))
     fresh-undoing-in (sits-more {q = x} {a} {l} {c} s y) (knows_more z n) st y₀ y₁ b (waits-later h w) e (undoing-here r q) m₀ y₂ v m = absurd (quiet-waits-in w e q)
     fresh-undoing-in (sits-more {q = x} {a} {l} {c} s y) (knows_more z n) st y₀ y₁ b (waits-first h w) e (undoing-later q r) m₀ y₂ v m = absurd (quiet-waits w e q)

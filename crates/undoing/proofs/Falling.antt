@@ -645,7 +645,7 @@ mutual
   among-falls : {f : ℕ → ℕ} {h r b : Bool} {l : Acts} {c : ℕ} → FormedIn h r l → KnowsIn f l c → (z : Bool) (y₀ t : ℕ) (o : Order) → WaitsIn o.marks l c t b → is_take (doing_among l c t) ≡ true
       → (r && is_part l c t) ≡ false
       → Fell f h c (end_with l c t) o (step_among in_place l z y₀ c t o)
-  among-falls {f = f} {b = b} {c = c} (formed-none {h = h} {r = r}) _ z y₀ t o x23 i d = elim x23 [ ]
+  among-falls {f = f} {b = b} {c = c} (formed-none {h = h} {r = r}) _ z y₀ t o w i d = elim w [ ]
   among-falls {f} {h} {r} (formed-more {a = a} {l = l} x y) (knows_more {c = c} kx ky) z y₀ t o (waits-first u w) i d =
       among-as f h (more a l) z y₀ c t o (first-end a l c t u) (first-among a l z y₀ c t o u) (step_falls x kx (cond z c y₀) t o w (take-as (doing-among a l c t u) i) (deep-first r l c t x d))
   among-falls {f} {h} {r} (formed-more {a = a} {l = l} x y) (knows_more {c = c} kx ky) z y₀ t o (waits-later u w) i d =

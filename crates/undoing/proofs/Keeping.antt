@@ -763,7 +763,7 @@ module _ {ms : List ℕ} (t j : ℕ) where
         (λ d. own-up-in y w (sym (owns-within t j own within k (λ i. omega arith) d) ∙ h))
 
     own-up-in : {f : ℕ → ℕ} {l : Acts} {c : ℕ} {b : Bool} → KnowsIn f l c → WaitsIn ms l c t b → owns_among l c t j ≡ true → Up ms j
-    own-up-in {f = f} {b = b} (knows-none {c = c}) x16 h = elim x16 [ ]
+    own-up-in {f = f} {b = b} (knows-none {c = c}) z h = elim z [ ]
     own-up-in (knows_more {a} {l} {c} x y) (waits-first u w) h = own-up x w (sym (owns-first t j a l c (lt-ltb t (c + size a) u)) ∙ h)
     own-up-in (knows_more {a} {l} {c} x y) (waits-later u w) h = own-up-in y w (sym (owns-later t j a l c (le-ltb t (c + size a) u)) ∙ h)
 

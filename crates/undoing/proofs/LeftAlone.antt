@@ -23,7 +23,7 @@ use Rattle.undoing.specs.Ties.{Place, name_of}
 use Rattle.undoing.proofs.Parts.{both, decide}
 use Rattle.undoing.proofs.Accounts.{live, waits, phase, phase-faulty}
 use Rattle.undoing.proofs.Marks.{trio, holding, Agree, Quiet, Kept, Run, run-awaits, run-one, run-all, run-body, run-done, run-turned, One, one-here, one_later, All, all_none, all-run, all_quiet, Turned, turned-waits, turned-undoes, turned-heals, Stopped, stopped-part, stopped-quiet, stopped-scope, StoppedIn, stopped_more, Stoppable, quiet-part, agree-below, agree-above, stoppable-agree, turned-not-open}
-use Rattle.undoing.proofs.Orders.{Fit, Sits, sits-part, sits-scope, SitsIn, sits-more}
+use Rattle.undoing.proofs.Orders.{Fit, Sits, sits-part, sits-scope, SitsIn, sits-more, sits-none}
 use Rattle.undoing.proofs.Waiting.{idle-awaits, Waits, waits-itself, waits-within, WaitsIn, waits-first, waits-later, opens, opens-idle, quiet-waits, quiet-waits-in, stopped-waits, waits-from}
 use Rattle.undoing.proofs.Fitting.{waits-to}
 use Rattle.undoing.proofs.Combining.{AllAs, quiet-found, arms-held, arms_none}
@@ -452,6 +452,7 @@ module _ (j many : ℕ) where
 
       alone-one : {x : Place} {l : Acts} {c : ℕ} → SitsIn p x l c → (y₀ : ℕ) (o : Order) (b : Bool) → PartOf x y₀ → WaitsIn o.marks l c t b → b ≡ false → One o.marks l c → Fit x o → c + sizes l ≤ length o.marks
           → UpIn o.marks j many l c → Good (λ ms. UpIn ms j many l c) o (step_among actor l false y₀ c t o)
+      alone-one (sits-none {c = c}) y₀ o b q z e _ f m u = elim z [ ]
       alone-one (sits-more {a = a} {l} {c} s y) y₀ o b q (waits-first h w) e (one-here r n) f m (up_first u) =
           subst (λ (z : Outcome). Good (λ ms. UpIn ms j many (more a l) c) o z) (sym (among-is actor a l y₀ c t o true (lt-ltb t (c + size a) h)))
           (good-so (step_in actor a y₀ c t o) (λ ms. up_first) (alone-run s y₀ o b q w e r f (omega arith) u))
@@ -465,6 +466,7 @@ module _ (j many : ℕ) where
 
       alone-all : {x : Place} {l : Acts} {c : ℕ} → SitsIn p x l c → (y₀ : ℕ) (o : Order) (b : Bool) → PartOf x y₀ → WaitsIn o.marks l c t b → b ≡ false → All o.marks l c → Fit x o → c + sizes l ≤ length o.marks
           → UpIn o.marks j many l c → Beside (λ ms. UpIn ms j many l c) o (step_among actor l false y₀ c t o)
+      alone-all (sits-none {c = c}) y₀ o b q z e _ f m u = elim z [ ]
       alone-all (sits-more {a = a} {l} {c} s y) y₀ o b q (waits-first h w) e (all-run r n) f m (up_first u) =
           subst (λ (z : Outcome). Beside (λ ms. UpIn ms j many (more a l) c) o z) (sym (among-is actor a l y₀ c t o true (lt-ltb t (c + size a) h)))
           (good-beside (step_in actor a y₀ c t o) (good-so (step_in actor a y₀ c t o) (λ ms. up_first) (alone-run s y₀ o b q w e r f (omega arith) u)))
@@ -497,6 +499,7 @@ module _ (j many : ℕ) where
 
       stopped-in : {x : Place} {l : Acts} {c : ℕ} → SitsIn p x l c → (y₀ : ℕ) (o : Order) (b : Bool) → PartOf x y₀ → WaitsIn o.marks l c t b → b ≡ false → StoppedIn o.marks l c → c + sizes l ≤ length o.marks
           → UpIn o.marks j many l c → Beside (λ ms. UpIn ms j many l c) o (step_among actor l false y₀ c t o)
+      stopped-in (sits-none {c = c}) y₀ o b q z e _ m _ = elim z [ ]
       stopped-in (sits-more {a = a} {l} {c} s y) y₀ o b q (waits-first h w) e (stopped_more r n) m (up_first u) =
           subst (λ (z : Outcome). Beside (λ ms. UpIn ms j many (more a l) c) o z) (sym (among-is actor a l y₀ c t o true (lt-ltb t (c + size a) h)))
           (beside-so (step_in actor a y₀ c t o) (λ ms. up_first) (alone-stopped s y₀ o b q w e r (omega arith) u))

@@ -24,7 +24,7 @@ use Rattle.undoing.specs.Ties.{Place}
 use Rattle.undoing.specs.Answered.{is_sure, has_all, surely, surely_among, without}
 use Rattle.undoing.proofs.Parts.{decide, only-append, some-append}
 use Rattle.undoing.proofs.Marks.{trio, is_doer, run-loud, Quiet, Kept, holding, Run, run-awaits, run-one, run-all, run-body, run-done, run-turned, One, one-here, one_later, All, all-run, all_quiet, quiet-agree, agree-below, agree-above}
-use Rattle.undoing.proofs.Orders.{Fit, fit-kept, fit-marked, least, fore-on, Sits, sits-part, sits-scope, SitsIn, sits-more, Remedy, remedy}
+use Rattle.undoing.proofs.Orders.{Fit, fit-kept, fit-marked, least, fore-on, Sits, sits-part, sits-scope, SitsIn, sits-more, Remedy, remedy, sits-none}
 use Rattle.undoing.proofs.Moves.{Fore}
 use Rattle.undoing.proofs.Beginning.{quiet-set, quiet_all}
 use Rattle.undoing.proofs.Waiting.{opens, Waits, waits-itself, waits-within, WaitsIn, waits-first, waits-later, quiet-waits, quiet-waits-in}
@@ -479,6 +479,7 @@ module _ (p : Plan) where
 
     less_one : {x : Place} {l : Acts} {c : ℕ} → SitsIn p x l c → (y₀ t : ℕ) (o : Order) (b : Bool) → PartOf x y₀ → WaitsIn o.marks l c t b → b ≡ false → One o.marks l c
         → Fit x o → c + sizes l ≤ length o.marks → TurnAs l c t o.marks (step_among its_own l false y₀ c t o).order.marks (step_among its_own l false y₀ c t o).result
+    less_one (sits-none {q = q} {c = c}) y₀ t o b y₁ z e _ v m = elim z [ ]
     less_one (sits-more {q = x} {a} {l} {c} s y) y₀ t o b y₁ (waits-first h w) e (one-here r q) v m =
         subst (λ (z : Outcome). TurnAs (more a l) c t o.marks z.order.marks z.result) (sym (among-is its_own a l y₀ c t o true (lt-ltb t (c + size a) h)))
         (first-turn a l c t o (step_in its_own a y₀ c t o) h r (step_in its_own a y₀ c t o).result (steps p its_own s y₀ t o b y₁ w e r v (omega arith)).comes (less s y₀ t o b y₁ w e r v (omega arith)))
@@ -491,6 +492,7 @@ module _ (p : Plan) where
 
     less-all : {x : Place} {l : Acts} {c : ℕ} → SitsIn p x l c → (y₀ t : ℕ) (o : Order) (b : Bool) → PartOf x y₀ → WaitsIn o.marks l c t b → b ≡ false → All o.marks l c
         → Fit x o → c + sizes l ≤ length o.marks → AllLessAs l c t o.marks (step_among its_own l false y₀ c t o).order.marks (step_among its_own l false y₀ c t o).result
+    less-all (sits-none {q = q} {c = c}) y₀ t o b y₁ z e _ v m = elim z [ ]
     less-all (sits-more {q = x} {a} {l} {c} s y) y₀ t o b y₁ (waits-first h w) e (all-run r q) v m =
         let z = steps p its_own s y₀ t o b y₁ w e r v (omega arith) in
         subst (λ (z : Outcome). AllLessAs (more a l) c t o.marks z.order.marks z.result) (sym (among-is its_own a l y₀ c t o true (lt-ltb t (c + size a) h)))
@@ -553,7 +555,7 @@ mutual
   due-left (act (arm x y vs) within) k t b w e r h = absurd (false≢true h)
 
   due-turn : {ms : List ℕ} (l : Acts) (c t : ℕ) (b : Bool) → WaitsIn ms l c t b → b ≡ false → One ms l c → some (eqb t) (surely_among l c) ≡ true → some (eqb t) (left_in_turn l c ms) ≡ true
-  due-turn {ms = ms} none c t b x12 e _ h = elim x12 [ ]
+  due-turn {ms = ms} none c t b z e _ h = elim z [ ]
   due-turn {ms} (more a l) c t b (waits-first z w) e (one-here r q) h =
       rw (
         loud-told a c ms r,
@@ -566,6 +568,7 @@ mutual
       rw (quiet_told (size a) c ms q) (due-turn l (c + size a) t b w e r (later-some t (surely a c) (surely_among l (c + size a)) h (surely-none a c t (off-above t c (size a) z))))
 
   due_all : {ms : List ℕ} (l : Acts) (c t : ℕ) (b : Bool) → WaitsIn ms l c t b → b ≡ false → All ms l c → some (eqb t) (surely_among l c) ≡ true → some (eqb t) (left_of_all l c ms) ≡ true
+  due_all {ms = ms} none c t b z e _ h = elim z [ ]
   due_all {ms} (more a l) c t b (waits-first z w) e (all-run r q) h =
       rw (
         some-append (eqb t) (left_in a c ms) (left_of_all l (c + size a) ms),

@@ -188,7 +188,7 @@ module _ {j many : ℕ} where
 
       pub stop-alone-in : {x : Place} {v : Bool} {l : Acts} {c : ℕ} → SitsIn p x l c → (o : Order) → phase (mark_of (name_of x) o) ≡ waits v → StoppableIn o.marks l c → c + sizes l ≤ length o.marks → UpIn o.marks j many l c
           → Agree j many o.marks (stop_all l c o).order.marks × UpIn (stop_all l c o).order.marks j many l c
-      stop-alone-in {v = v} (sits-none {q = q} {c = c}) o z _ m x26 = elim x26 [ ]
+      stop-alone-in {v = v} (sits-none {q = q} {c = c}) o z _ m w = elim w [ ]
       stop-alone-in (sits-more {q = x} {a} {l} {c} s y) o z (able-more t w) m (up_first u) =
           let r₀ = up-range u in
           let q = stop-alone s o z t (omega arith) u in

@@ -27,7 +27,7 @@ use Rattle.undoing.proofs.Accounts.{Phase, live, waits, heals, phase}
 use Rattle.undoing.proofs.Moves.{runner_at}
 use Rattle.undoing.proofs.Places.{first-of, second-of}
 use Rattle.undoing.proofs.Marks.{trio, Quiet, Kept, Nth, Run, run-awaits, run-one, run-all, run-body, run-done, run-turned, One, one-here, one_later, All, all-run, all_quiet, Turned, turned-waits, turned-undoes, turned-heals, Stopped, stopped-part, stopped-quiet, stopped-scope, StoppedIn, stopped_more, Undoing, undoing-part, undoing-scope, undoing-through, UndoingIn, undoing-here, undoing-later, quiet-part, turned-not-open, turned-not-rest}
-use Rattle.undoing.proofs.Orders.{Fit, Sits, sits-part, sits-scope, SitsIn, sits-more, Remedy, remedy, Healers, heals-by, heals-all, Rest, rest-undo, rest-none}
+use Rattle.undoing.proofs.Orders.{Fit, Sits, sits-part, sits-scope, SitsIn, sits-more, Remedy, remedy, Healers, heals-by, heals-all, Rest, rest-undo, rest-none, sits-none}
 use Rattle.undoing.proofs.Remedies.{nth-there, nth-run, chosen-most, choice-on}
 use Rattle.undoing.proofs.Seats.{Seat, mark-kept, stopped-rests}
 use Rattle.undoing.proofs.Stopping.{seat-of}
@@ -280,6 +280,7 @@ module _ (p : Plan) (actor : Actor) (f : ℕ → ℕ) where
 
     once-one : {x : Place} {l : Acts} {c : ℕ} → SitsIn p x l c → KnowsIn f l c → (v₀ : Bool) (y₀ t : ℕ) (o : Order) (b : Bool) → WaitsIn o.marks l c t b → b ≡ false → One o.marks l c → Fit x o → c + sizes l ≤ length o.marks
         → Once f (step_among actor l v₀ y₀ c t o).log
+    once-one (sits-none {q = q} {c = c}) _ v₀ y₀ t o b z e _ v m = elim z [ ]
     once-one (sits-more {q = x} {a} {l} {c} s y) (knows_more z n) v₀ y₀ t o b (waits-first h w) e (one-here r q) v m = first-once a l v₀ y₀ c t o h (once-run s z (cond v₀ c y₀) t o b w e r v (omega arith))
     once-one (sits-more {q = x} {a} {l} {c} s y) (knows_more z n) v₀ y₀ t o b (waits-later h w) e (one-here r q) v m = absurd (quiet-waits-in w e q)
     once-one (sits-more {q = x} {a} {l} {c} s y) (knows_more z n) v₀ y₀ t o b (waits-first h w) e (one_later q r) v m = absurd (quiet-waits w e q)
@@ -287,6 +288,7 @@ module _ (p : Plan) (actor : Actor) (f : ℕ → ℕ) where
 
     once-all : {x : Place} {l : Acts} {c : ℕ} → SitsIn p x l c → KnowsIn f l c → (v₀ : Bool) (y₀ t : ℕ) (o : Order) (b : Bool) → WaitsIn o.marks l c t b → b ≡ false → All o.marks l c → Fit x o → c + sizes l ≤ length o.marks
         → Once f (step_among actor l v₀ y₀ c t o).log
+    once-all (sits-none {q = q} {c = c}) _ v₀ y₀ t o b z e _ v m = elim z [ ]
     once-all (sits-more {q = x} {a} {l} {c} s y) (knows_more z n) v₀ y₀ t o b (waits-first h w) e (all-run r q) v m = first-once a l v₀ y₀ c t o h (once-run s z (cond v₀ c y₀) t o b w e r v (omega arith))
     once-all (sits-more {q = x} {a} {l} {c} s y) (knows_more z n) v₀ y₀ t o b (waits-first h w) e (all_quiet q r) v m = absurd (quiet-waits w e q)
     once-all (sits-more {q = x} {a} {l} {c} s y) (knows_more z n) v₀ y₀ t o b (waits-later h w) e (all-run r q) v m = later-once a l v₀ y₀ c t o h (once-all y n v₀ y₀ t o b w e q v (omega arith))
@@ -311,6 +313,7 @@ module _ (p : Plan) (actor : Actor) (f : ℕ → ℕ) where
 
     once-stopped-in : {x : Place} {l : Acts} {c : ℕ} → SitsIn p x l c → KnowsIn f l c → (v₀ : Bool) (y₀ t : ℕ) (o : Order) (b : Bool) → WaitsIn o.marks l c t b → b ≡ false → StoppedIn o.marks l c → c + sizes l ≤ length o.marks
         → Once f (step_among actor l v₀ y₀ c t o).log
+    once-stopped-in (sits-none {q = q} {c = c}) _ v₀ y₀ t o b z e _ m = elim z [ ]
     once-stopped-in (sits-more {q = x} {a} {l} {c} s y) (knows_more z n) v₀ y₀ t o b (waits-first h w) e (stopped_more r q) m = first-once a l v₀ y₀ c t o h (once-stopped s z (cond v₀ c y₀) t o b w e r (omega arith))
     once-stopped-in (sits-more {q = x} {a} {l} {c} s y) (knows_more z n) v₀ y₀ t o b (waits-later h w) e (stopped_more r q) m = later-once a l v₀ y₀ c t o h (once-stopped-in y n v₀ y₀ t o b w e q (omega arith))
 
@@ -332,6 +335,7 @@ module _ (p : Plan) (actor : Actor) (f : ℕ → ℕ) where
 
     once-undoing-in : {x : Place} {l : Acts} {c : ℕ} → SitsIn p x l c → KnowsIn f l c → (v₀ : Bool) (y₀ t : ℕ) (o : Order) (b : Bool) → WaitsIn o.marks l c t b → b ≡ false → UndoingIn o.marks l c → (m₀ : Name) → runner_at (λ n. mark_of n o) (name_of x) (beyond_of x) ≡ m₀ → Fit (undo_of (name_of x) (beyond_of x) (last_of x)) o
         → c + sizes l ≤ length o.marks → Once f (step_among actor l v₀ y₀ c t o).log
+    once-undoing-in (sits-none {q = q} {c = c}) _ v₀ y₀ t o b z e _ m₀ y₂ v m = elim z [ ]
     once-undoing-in (sits-more {q = x} {a} {l} {c} s y) (knows_more z n) v₀ y₀ t o b (waits-first h w) e (undoing-here r q) m₀ y₂ v m = first-once a l v₀ y₀ c t o h (once-undoing s z (cond v₀ c y₀) t o b w e r m₀ y₂ v (omega arith))
     once-undoing-in (sits-more {q = x} {a} {l} {c} s y) (knows_more z n) v₀ y₀ t o b (waits-later h w) e (undoing-here r q) m₀ y₂ v m = absurd (quiet-waits-in w e q)
     once-undoing-in (sits-more {q = x} {a} {l} {c} s y) (knows_more z n) v₀ y₀ t o b (waits-first h w) e (undoing-later q r) m₀ y₂ v m = absurd (quiet-waits w e q)

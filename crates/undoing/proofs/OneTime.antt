@@ -55,7 +55,7 @@ mutual
       (λ d. owns-within t t own within k (λ i. omega arith) d ∙ owns-self-in y w h)
 
   owns-self-in : {ms : List ℕ} {f : ℕ → ℕ} {l : Acts} {c t : ℕ} {b : Bool} → KnowsIn f l c → WaitsIn ms l c t b → acts (f t) ≡ true → owns_among l c t t ≡ true
-  owns-self-in {ms = ms} {f = f} {t = t} {b = b} (knows-none {c = c}) x16 h = elim x16 [ ]
+  owns-self-in {ms = ms} {f = f} {t = t} {b = b} (knows-none {c = c}) z h = elim z [ ]
   owns-self-in {t = t} (knows_more {a} {l} {c} x y) (waits-first u w) h = owns-first t t a l c (lt-ltb t (c + size a) u) ∙ owns-self x w h
   owns-self-in {t = t} (knows_more {a} {l} {c} x y) (waits-later u w) h = owns-later t t a l c (le-ltb t (c + size a) u) ∙ owns-self-in y w h
 

@@ -27,7 +27,7 @@ use Rattle.undoing.proofs.Parts.{both, decide, some-append}
 use Rattle.undoing.proofs.Accounts.{Phase, live, heals, phase}
 use Rattle.undoing.proofs.Places.{first-of, second-of}
 use Rattle.undoing.proofs.Marks.{trio, Quiet, is_doer, Run, run-awaits, run-one, run-all, run-body, run-done, run-turned, One, one-here, one_later, All, all_none, all-run, all_quiet, Nth, Turned, turned-waits, turned-undoes, turned-heals, Stopped, stopped-part, stopped-quiet, stopped-scope, StoppedIn, stopped_more, Undoing, undoing-part, undoing-scope, undoing-through, UndoingIn, undoing-here, undoing-later, quiet-part, quiet-join, turned-not-rest}
-use Rattle.undoing.proofs.Orders.{Fit, Sits, sits-part, sits-scope, SitsIn, sits-more, Remedy, remedy, Healers, heals-by, heals-all, Rest, rest-undo, rest-none}
+use Rattle.undoing.proofs.Orders.{Fit, Sits, sits-part, sits-scope, SitsIn, sits-more, Remedy, remedy, Healers, heals-by, heals-all, Rest, rest-undo, rest-none, sits-none}
 use Rattle.undoing.proofs.Moves.{runner_at}
 use Rattle.undoing.proofs.Seats.{Seat, mark-kept, stopped-rests}
 use Rattle.undoing.proofs.Choices.{general-is}
@@ -172,7 +172,7 @@ module _ (f : ℕ → ℕ) where
     run-loud-so {ms} (knows e n r y) (run-turned {xs} {v} {k = k} d) = loud k (omega arith) (omega arith) (ap lasts e ∙ scope-lasts xs v) (decide (eqb (get_or ms k 0) idle) (λ z. absurd (turned-not-rest d (eqb-true (get_or ms k 0) idle z))) (λ z. z))
 
     one-loud-so : {ms : List ℕ} {l : Acts} {c : ℕ} → KnowsIn f l c → One ms l c → Loud ms c (sizes l)
-    one-loud-so {ms = ms} (knows-none {c = c}) x9 = elim x9 [ ]
+    one-loud-so {ms = ms} (knows-none {c = c}) z = elim z [ ]
     one-loud-so (knows_more x y) (one-here r q) = loud-wider (run-loud-so x r) (omega arith) (omega arith)
     one-loud-so (knows_more x y) (one_later q r) = loud-wider (one-loud-so y r) (omega arith) (omega arith)
 
@@ -749,11 +749,13 @@ module _ (p : Plan) (actor : Actor) (f : ℕ → ℕ) (t : ℕ) (o : Order) wher
 
     thru-one : {x : Place} {l : Acts} {c : ℕ} → SitsIn p x l c → KnowsIn f l c → (y₀ : ℕ) → PartOf x y₀ → (b : Bool) → WaitsIn o.marks l c t b → b ≡ false → One o.marks l c → Fit x o → c + sizes l ≤ length o.marks
         → some is_rash (step_among actor l false y₀ c t o).log ≡ false → ThruIn (step_among actor l false y₀ c t o) l c
+    thru-one (sits-none {q = q} {c = c}) z y₀ y₁ b w e r v m i = elim w [ ]
     thru-one (sits-more {q = x} {a} {l} {c} s y) z y₀ y₁ b w e r v m i =
         one-by a l y₀ c b w e r m i (λ w₁ r₁ m₁ c₁. thru-run s (first-known z) y₀ y₁ b w₁ e r₁ v m₁ c₁) (λ w₁ r₁ m₁ c₁. thru-one y (later-known z) y₀ y₁ b w₁ e r₁ v m₁ c₁)
 
     thru-all : {x : Place} {l : Acts} {c : ℕ} → SitsIn p x l c → KnowsIn f l c → (y₀ : ℕ) → PartOf x y₀ → (b : Bool) → WaitsIn o.marks l c t b → b ≡ false → All o.marks l c → Fit x o → c + sizes l ≤ length o.marks
         → some is_rash (step_among actor l false y₀ c t o).log ≡ false → ThruIn (step_among actor l false y₀ c t o) l c
+    thru-all (sits-none {q = q} {c = c}) z y₀ y₁ b w e r v m i = elim w [ ]
     thru-all (sits-more {q = x} {a} {l} {c} s y) z y₀ y₁ b w e r v m i =
         all-by a l y₀ c b w e r m i (λ w₁ r₁ m₁ c₁. thru-run s (first-known z) y₀ y₁ b w₁ e r₁ v m₁ c₁) (λ w₁ r₁ m₁ c₁. thru-all y (later-known z) y₀ y₁ b w₁ e r₁ v m₁ c₁)
 
@@ -771,6 +773,7 @@ module _ (p : Plan) (actor : Actor) (f : ℕ → ℕ) (t : ℕ) (o : Order) wher
 
     thru-stopped-in : {x : Place} {l : Acts} {c : ℕ} → SitsIn p x l c → KnowsIn f l c → (y₀ : ℕ) → PartOf x y₀ → (b : Bool) → WaitsIn o.marks l c t b → b ≡ false → StoppedIn o.marks l c → c + sizes l ≤ length o.marks
         → some is_rash (step_among actor l false y₀ c t o).log ≡ false → ThruIn (step_among actor l false y₀ c t o) l c
+    thru-stopped-in (sits-none {q = q} {c = c}) z y₀ y₁ b w e r m i = elim w [ ]
     thru-stopped-in (sits-more {q = x} {a} {l} {c} s y) z y₀ y₁ b w e r m i =
         stopped_by a l y₀ c b w r m i (λ w₁ r₁ m₁ c₁. thru-stopped s (first-known z) y₀ y₁ b w₁ e r₁ m₁ c₁) (λ w₁ r₁ m₁ c₁. thru-stopped-in y (later-known z) y₀ y₁ b w₁ e r₁ m₁ c₁)
 
@@ -788,6 +791,7 @@ module _ (p : Plan) (actor : Actor) (f : ℕ → ℕ) (t : ℕ) (o : Order) wher
 
     thru-undoing-in : {x : Place} {l : Acts} {c : ℕ} → SitsIn p x l c → KnowsIn f l c → (y₀ : ℕ) → PartOf x y₀ → (b : Bool) → WaitsIn o.marks l c t b → b ≡ false → UndoingIn o.marks l c → (m₀ : Name) → runner_at (λ n. mark_of n o) (name_of x) (beyond_of x) ≡ m₀ → Fit (undo_of (name_of x) (beyond_of x) (last_of x)) o
         → c + sizes l ≤ length o.marks → some is_rash (step_among actor l false y₀ c t o).log ≡ false → ThruIn (step_among actor l false y₀ c t o) l c
+    thru-undoing-in (sits-none {q = q} {c = c}) z y₀ y₁ b w e r m₀ y₂ v m i = elim w [ ]
     thru-undoing-in (sits-more {q = x} {a} {l} {c} s y) z y₀ y₁ b w e r m₀ y₂ v m i =
         undoing-by a l y₀ c b w e r m i (λ w₁ r₁ m₁ c₁. thru-undoing s (first-known z) y₀ y₁ b w₁ e r₁ m₀ y₂ v m₁ c₁) (λ w₁ r₁ m₁ c₁. thru-undoing-in y (later-known z) y₀ y₁ b w₁ e r₁ m₀ y₂ v m₁ c₁)
 

@@ -323,6 +323,7 @@ module _ (p : Plan) where
     pub undo-repays-in : {x : Place} {l : Acts} {c : ℕ} → SitsIn p x l c → (q₀ t : ℕ) (o : Order) (b : Bool) → PartOf x q₀ → WaitsIn o.marks l c t b → b ≡ false → UndoingIn o.marks l c
         → (m₀ : Name) → runner_at (λ n. mark_of n o) (name_of x) (beyond_of x) ≡ m₀ → Fit (undo_of (name_of x) (beyond_of x) (last_of x)) o → c + sizes l ≤ length o.marks
         → Repays (undo_left_among l c) t o (step_among its_own l false q₀ c t o)
+    undo-repays-in (sits-none {q = q} {c = c}) q₀ t o b q₁ z e _ m₀ y₂ v m = elim z [ ]
     undo-repays-in (sits-more {q = x} {a} {l} {c} s y) q₀ t o b q₁ (waits-first h w) e (undoing-here r q) m₀ y₂ v m =
         let i = steps-undoing p its_own s q₀ t o b q₁ w e r m₀ y₂ v (omega arith) in
         subst (Repays (undo_left_among (more a l) c) t o) (sym (among-is its_own a l q₀ c t o true (lt-ltb t (c + size a) h)))
@@ -398,6 +399,7 @@ mutual
 
   undo-due-in : {p : Plan} {x : Place} {ms : List ℕ} (l : Acts) (c e t : ℕ) (b : Bool) → SitsIn p x l c → directly_in l c e ≡ true → WaitsIn ms l c t b → b ≡ false → UndoingIn ms l c
       → some (eqb t) (back_among l c e) ≡ true → some (eqb t) (undo_left_among l c ms) ≡ true
+  undo-due-in {p = p} {ms = ms} none c e t b _ d z f _ h = elim z [ ]
   undo-due-in {ms = ms} (more a l) c e t b (sits-more s y) d (waits-first z w) f (undoing-here r q) h =
       ap (some (eqb t)) (first-left a l c ms (undo-quiet-in y ms q))
       ∙ decide (directly a c e)

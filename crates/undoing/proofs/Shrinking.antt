@@ -323,7 +323,7 @@ module _ (f : ℕ → ℕ) (lead : ℕ → Lead) (own? : ℕ → Bool) (t : ℕ)
 
     fewer-turn : (v : Acts) (c : ℕ) {b : Bool} (k : ℕ) → LeadsIn lead v c (in_order k) → KnowsIn f v c → bare_in v ≡ true → Stretch c (sizes v) → (acts (f t) ≡ true → own? t ≡ true)
         → One ms v c → WaitsIn ms v c t b → b ≡ false → has_began k l ≡ false → (s : ℕ) → Fewer (left_in_turn v c) s
-    fewer-turn none c k _ _ b w o x32 _ e n s h = elim x32 [ ]
+    fewer-turn none c k _ _ b w o z _ e n s h = elim z [ ]
     fewer-turn (more a v) c k (leads-more d x y) (knows_more g i) b w o (one-here r q) (waits-first z j) e n s h =
         both (bare a) (bare_in v) b (λ b₁ b₂.
         let n₁ : has_began c l ≡ false = not_behind k c d n (waits-from j) in
@@ -344,6 +344,7 @@ module _ (f : ℕ → ℕ) (lead : ℕ → Lead) (own? : ℕ → Bool) (t : ℕ)
 
     fewer-all : (v : Acts) (c : ℕ) {b : Bool} (k : ℕ) → LeadsIn lead v c (together k) → KnowsIn f v c → bare_in v ≡ true → Stretch c (sizes v) → (acts (f t) ≡ true → own? t ≡ true)
         → All ms v c → WaitsIn ms v c t b → b ≡ false → has_began k l ≡ false → (s : ℕ) → Fewer (left_of_all v c) s
+    fewer-all none c k _ _ b w o _ z e n s h = elim z [ ]
     fewer-all (more a v) c k (leads-more d x y) (knows_more g i) b w o (all-run r q) (waits-first z j) e n s h =
         both (bare a) (bare_in v) b (λ b₁ b₂.
         either-some s (left_in a c ns) (left_of_all v (c + size a) ns) h

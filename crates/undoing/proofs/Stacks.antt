@@ -105,7 +105,7 @@ kept-nothing xs x q k = go (xs ++ (x ∷ q)) k (λ e. filled xs e)
   where
     go : (l : List (List ℕ)) → Kept l [] → (l ≡ [] → ⊥) → ⊥
     go [] kept-none f = f refl
-    go (_ ∷ _) x5 f = elim x5 [ ]
+    go (_ ∷ _) z f = elim z [ ]
 
     filled : (ys : List (List ℕ)) → ys ++ (x ∷ q) ≡ [] → ⊥
     filled [] e = let z : ◌≡◌ {A = ℕ} 0 1 = cc in omega arith

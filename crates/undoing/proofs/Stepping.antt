@@ -412,7 +412,7 @@ module _ (p : Plan) (actor : Actor) where
       → Quiet ms c (sizes l) → Quiet o.marks c (sizes l)
       → c + sizes l ≤ length o.marks → Fit x o → (Acted c (sizes l) o (OneAs p l c t o) (step_among actor l false y₀ c t o)) × (is_part l c t ≡ true) × (b ≡ true)
   unfolding size is_part
-  arms-steps {ms = ms} {b = b} (sits-none {c = c}) y₀ t o x23 q q₁ m f = elim x23 [ ]
+  arms-steps {ms = ms} {b = b} (sits-none {c = c}) y₀ t o z q q₁ m f = elim z [ ]
   arms-steps (sits-more {q = x} {a} {l} {c} s y) y₀ t o (waits-first h w) q q₁ m f =
       let r = arm-steps s y₀ t o w (quiet-part q (omega arith) (omega arith)) (quiet-part q₁ (omega arith) (omega arith)) (omega arith) f in (
         subst (λ (z : Outcome). Acted c (size a + sizes l) o (OneAs p (more a l) c t o) z) (sym (among-is actor a l y₀ c t o true (lt-ltb t (c + size a) h)))
@@ -962,7 +962,7 @@ module _ (p : Plan) (actor : Actor) where
 
   pub stopped-part-not : {ms : List ℕ} {l : Acts} {c t : ℕ} {b : Bool} → StoppedIn ms l c → WaitsIn ms l c t b → b ≡ false → is_part l c t ≡ false
   unfolding is_part
-  stopped-part-not {ms = ms} {t = t} {b = b} (stopped_none {c = c}) x7 f = elim x7 [ ]
+  stopped-part-not {ms = ms} {t = t} {b = b} (stopped_none {c = c}) z f = elim z [ ]
   stopped-part-not (stopped_more {a} {l} {c} x y) (waits-first {t = t} h w) f =
       rw (ne_eqb c t (omega (arith, stopped-waits x w f)), not-part l (c + size a) t h)
   stopped-part-not (stopped_more {a} {l} {c} x y) (waits-later {t = t} h w) f =
@@ -1122,6 +1122,7 @@ module _ (p : Plan) (actor : Actor) where
 
     pub steps-one : {x : Place} {l : Acts} {c : ℕ} → SitsIn p x l c → (y₀ t : ℕ) (o : Order) (b : Bool) → PartOf x y₀ → WaitsIn o.marks l c t b → b ≡ false → One o.marks l c
         → Fit x o → c + sizes l ≤ length o.marks → Acted c (sizes l) o (OneAs p l c t o) (step_among actor l false y₀ c t o)
+    steps-one (sits-none {q = q} {c = c}) y₀ t o b y₁ z e _ v m = elim z [ ]
     steps-one (sits-more {q = x} {a} {l} {c} s y) y₀ t o b y₁ (waits-first h w) e (one-here r q) v m =
         subst (λ (z : Outcome). Acted c (size a + sizes l) o (OneAs p (more a l) c t o) z) (sym (among-is actor a l y₀ c t o true (lt-ltb t (c + size a) h)))
         (first_one a l c t o (step_in actor a y₀ c t o) (steps s y₀ t o b y₁ w e r v (omega arith)) q)
@@ -1133,6 +1134,7 @@ module _ (p : Plan) (actor : Actor) where
 
     pub steps_all : {x : Place} {l : Acts} {c : ℕ} → SitsIn p x l c → (y₀ t : ℕ) (o : Order) (b : Bool) → PartOf x y₀ → WaitsIn o.marks l c t b → b ≡ false → All o.marks l c
         → Fit x o → c + sizes l ≤ length o.marks → Acted c (sizes l) o (AllAs p l c t o) (step_among actor l false y₀ c t o)
+    steps_all (sits-none {q = q} {c = c}) y₀ t o b y₁ z e _ v m = elim z [ ]
     steps_all (sits-more {q = x} {a} {l} {c} s y) y₀ t o b y₁ (waits-first h w) e (all-run r q) v m =
         subst (λ (z : Outcome). Acted c (size a + sizes l) o (AllAs p (more a l) c t o) z) (sym (among-is actor a l y₀ c t o true (lt-ltb t (c + size a) h)))
         (first-all a l c t o (step_in actor a y₀ c t o) (steps s y₀ t o b y₁ w e r v (omega arith)) q)
@@ -1161,6 +1163,7 @@ module _ (p : Plan) (actor : Actor) where
     pub steps-stopped-in : {x : Place} {l : Acts} {c : ℕ} → SitsIn p x l c → (y₀ t : ℕ) (o : Order) (b : Bool) → PartOf x y₀ → WaitsIn o.marks l c t b → b ≡ false
         → StoppedIn o.marks l c
         → c + sizes l ≤ length o.marks → Acted c (sizes l) o (StopInAs l c o) (step_among actor l false y₀ c t o)
+    steps-stopped-in (sits-none {q = q} {c = c}) y₀ t o b y₁ z e _ m = elim z [ ]
     steps-stopped-in (sits-more {q = x} {a} {l} {c} s y) y₀ t o b y₁ (waits-first h w) e (stopped_more r q) m =
         subst (λ (z : Outcome). Acted c (size a + sizes l) o (StopInAs (more a l) c o) z) (sym (among-is actor a l y₀ c t o true (lt-ltb t (c + size a) h)))
         (first-stopped a l c o (step_in actor a y₀ c t o) (steps-stopped s y₀ t o b y₁ w e r (omega arith)) q)
@@ -1184,6 +1187,7 @@ module _ (p : Plan) (actor : Actor) where
         → UndoingIn o.marks l c
         → (m : Name) → runner_at (λ n. mark_of n o) (name_of x) (beyond_of x) ≡ m
         → Fit (undo_of (name_of x) (beyond_of x) (last_of x)) o → c + sizes l ≤ length o.marks → Acted c (sizes l) o (UndoInAs m l c t o) (step_among actor l false y₀ c t o)
+    steps-undoing-in (sits-none {q = q} {c = c}) y₀ t o b y₁ z e _ m₀ y₂ v m = elim z [ ]
     steps-undoing-in (sits-more {q = x} {a} {l} {c} s y) y₀ t o b y₁ (waits-first h w) e (undoing-here r q) m₀ y₂ v m =
         subst (λ (z : Outcome). Acted c (size a + sizes l) o (UndoInAs m₀ (more a l) c t o) z) (sym (among-is actor a l y₀ c t o true (lt-ltb t (c + size a) h)))
         (first-undoing a l c o (step_in actor a y₀ c t o) m₀ t (steps-undoing s y₀ t o b y₁ w e r m₀ y₂ v (omega arith)) q)

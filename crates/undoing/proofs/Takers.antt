@@ -121,7 +121,7 @@ mutual
 
   undoing-ones : {p : Plan} {x : Place} {l : Acts} {c : ℕ} {ms : List ℕ} → SitsIn p x l c → UndoingIn ms l c → (e d s t : ℕ) → directly_in l c e ≡ true → directly_in l c d ≡ true
       → some (eqb s) (left_of (backs_in l c e) ms) ≡ true → some (eqb t) (left_of (backs_in l c d) ms) ≡ true → e ≡ d
-  undoing-ones {p = p} {ms = ms} (sits-none {q = q} {c = c}) x45 e d s t x z h j = elim x45 [ ]
+  undoing-ones {p = p} {ms = ms} (sits-none {q = q} {c = c}) w e d s t x z h j = elim w [ ]
   undoing-ones {ms = ms} (sits-more {a = a} {l} {c} i y) (undoing-here r q) e d s t x z h j =
       undoing-one i r e d s t (here e s x h) (here d t z j)
       (ap (λ (v : Back). some (eqb s) (left_of v ms)) (sym (first_back e (here e s x h))) ∙ h) (ap (λ (v : Back). some (eqb t) (left_of v ms)) (sym (first_back d (here d t z j))) ∙ j)

@@ -21,7 +21,7 @@ use Rattle.machine.specs.Calls.{doing_in, doing_among}
 use Rattle.undoing.specs.Ties.{Place, undo_of, name_of, beyond_of, last_of}
 use Rattle.undoing.proofs.Parts.{both}
 use Rattle.undoing.proofs.Marks.{trio, Quiet, Undoing, undoing-part, undoing-scope, undoing-through, UndoingIn, undoing-here, undoing-later}
-use Rattle.undoing.proofs.Orders.{Fit, bare, bare_in, Sits, sits-part, sits-scope, SitsIn, sits-more, remedy-bare}
+use Rattle.undoing.proofs.Orders.{Fit, bare, bare_in, Sits, sits-part, sits-scope, SitsIn, sits-more, remedy-bare, sits-none}
 use Rattle.undoing.proofs.Remedies.{part-from, nth-there, undoer}
 use Rattle.undoing.proofs.Moves.{runner_at}
 use Rattle.undoing.proofs.Scoping.{Acted, UndoAs}
@@ -167,6 +167,7 @@ module _ (p : Plan) where
     pub undo-raises-in : {x : Place} {l : Acts} {c : ℕ} → SitsIn p x l c → (q₀ t : ℕ) (o : Order) (b : Bool) → PartOf x q₀ → WaitsIn o.marks l c t b → b ≡ false → UndoingIn o.marks l c
         → (m₀ : Name) → runner_at (λ n. mark_of n o) (name_of x) (beyond_of x) ≡ m₀ → Fit (undo_of (name_of x) (beyond_of x) (last_of x)) o → c + sizes l ≤ length o.marks
         → is_take (doing_among l c t) ≡ true → (step_among in_place l false q₀ c t o).result ≡ undo_raising conflicting_receive
+    undo-raises-in (sits-none {q = q} {c = c}) q₀ t o b q₁ z e _ m₀ y₂ f m h = elim z [ ]
     undo-raises-in (sits-more {a = a} {l} {c} s y) q₀ t o b q₁ (waits-first v w) e (undoing-here r q) m₀ y₂ f m h =
         ap (λ (r : Outcome). r.result) (among-is in_place a l q₀ c t o true (lt-ltb t (c + size a) v)) ∙ undo-raises s q₀ t o b q₁ w e r m₀ y₂ f (omega arith) (ap is_take (sym (doing-among a l c t v)) ∙ h)
     undo-raises-in (sits-more {a = a} {l} {c} s y) q₀ t o b q₁ (waits-later v w) e (undoing-here r q) m₀ y₂ f m h = absurd (quiet-waits-in w e q)

@@ -38,14 +38,13 @@ pub activities_at-returns-in-Read-rest : goal.activities_at-returns-in-Read-rest
 activities_at-returns-in-Read-rest t c = search cases
 
 pub activity_at-numbered_scope_at-requires : goal.activity_at-numbered_scope_at-requires
-activity_at-numbered_scope_at-requires t c = let b : Base c.args.s.now c.args.vars c.args.m c.args.at = search rules in
-        (
-      search scope-place,
-      (
-        scope-room c.args.arm c.args.depth c.args.vars (chosen 0 c.args.correlation.now) c.args.s.now c.args.handler c.args.n c.args.at c.args.m _ _ c.own_at-own.ensures c.in-Numbered.is b,
-        scope-numbered c.args.arm c.args.depth c.args.vars (chosen 0 c.args.correlation.now) c.args.s.now c.args.handler c.args.n c.args.at c.args.m _ _ c.own_at-own.ensures c.in-Numbered.is,
-      ),
-    )
+activity_at-numbered_scope_at-requires t c = let b : Base c.args.s.now c.args.vars c.args.m c.args.at = search rules in (
+  search scope-place,
+  (
+    scope-room c.args.arm c.args.depth c.args.vars (chosen 0 c.args.correlation.now) c.args.s.now c.args.handler c.args.n c.args.at c.args.m _ _ c.own_at-own.ensures c.in-Numbered.is b,
+    scope-numbered c.args.arm c.args.depth c.args.vars (chosen 0 c.args.correlation.now) c.args.s.now c.args.handler c.args.n c.args.at c.args.m _ _ c.own_at-own.ensures c.in-Numbered.is,
+  ),
+)
 
 pub activity_at-overflow_add-n : goal.activity_at-overflow_add-n
 activity_at-overflow_add-n t c = search room
@@ -54,15 +53,14 @@ pub activity_at-activities_at-all-requires : goal.activity_at-activities_at-all-
 activity_at-activities_at-all-requires t c = (search room, (search room, (search room, search room)))
 
 pub activity_at-close_row-requires : goal.activity_at-close_row-requires
-activity_at-close_row-requires t c = let b : Base c.args.s.now c.args.vars c.args.m c.args.at = search rules in
-            (
-      own-numbered c.args.arm c.args.depth c.args.vars (chosen 0 c.args.correlation.now) c.args.s.now c.args.handler c.args.n c.args.at c.args.m c.own_at-own.ensures c.in-Read.is,
-      (
-        search room,
-        whole-stop c.args.arm c.args.depth c.args.vars (chosen 0 c.args.correlation.now) c.args.s.now c.args.handler c.args.n c.args.at c.args.m c.own_at-own.ensures c.in-Read.is (eqb c.in-Read.kind 10)
-            c.levels_below-below-in-Read.result c.later_of-later.result c.activities_at-all.ensures c.in-Read-all.is b,
-      ),
-    )
+activity_at-close_row-requires t c = let b : Base c.args.s.now c.args.vars c.args.m c.args.at = search rules in (
+  own-numbered c.args.arm c.args.depth c.args.vars (chosen 0 c.args.correlation.now) c.args.s.now c.args.handler c.args.n c.args.at c.args.m c.own_at-own.ensures c.in-Read.is,
+  (
+    search room,
+    whole-stop c.args.arm c.args.depth c.args.vars (chosen 0 c.args.correlation.now) c.args.s.now c.args.handler c.args.n c.args.at c.args.m c.own_at-own.ensures c.in-Read.is (eqb c.in-Read.kind 10)
+        c.levels_below-below-in-Read.result c.later_of-later.result c.activities_at-all.ensures c.in-Read-all.is b,
+  ),
+)
 
 pub activity_at-returns-in-Refused : goal.activity_at-returns-in-Refused
 activity_at-returns-in-Refused t c = search cases

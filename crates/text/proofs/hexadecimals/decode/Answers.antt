@@ -62,21 +62,21 @@ returns-then-s-eq1-clause-put c = refl
 
 pub returns-then-not-all_hex_digits-clause-is : goal.returns-then-not-all_hex_digits-clause-is
 returns-then-not-all_hex_digits-clause-is c = other _ c.is_dash.ensures c.if-is_dash.false c.if-s-eq0.false c.if-s-eq1.false
-      c.all_hex_digits.ensures c.if-not-all_hex_digits.true
+    c.all_hex_digits.ensures c.if-not-all_hex_digits.true
 
 pub returns-then-not-all_hex_digits-clause-put : goal.returns-then-not-all_hex_digits-clause-put
 returns-then-not-all_hex_digits-clause-put c = refl
 
 pub returns-then-count-gt8000-clause-is : goal.returns-then-count-gt8000-clause-is
 returns-then-count-gt8000-clause-is c = long _ c.is_dash.ensures c.if-is_dash.false c.if-s-eq0.false c.if-s-eq1.false
-      c.all_hex_digits.ensures c.if-not-all_hex_digits.false c.if-count-gt8000.true
+    c.all_hex_digits.ensures c.if-not-all_hex_digits.false c.if-count-gt8000.true
 
 pub returns-then-count-gt8000-clause-put : goal.returns-then-count-gt8000-clause-put
 returns-then-count-gt8000-clause-put c = refl
 
 pub returns-clause-is : goal.returns-clause-is
 returns-clause-is c = bytes _ c.is_dash.ensures c.if-is_dash.false c.if-s-eq0.false c.if-s-eq1.false
-      c.all_hex_digits.ensures c.if-not-all_hex_digits.false c.if-count-gt8000.false
+    c.all_hex_digits.ensures c.if-not-all_hex_digits.false c.if-count-gt8000.false
 
 pub returns-clause-put : goal.returns-clause-put
 returns-clause-put c = c.fill.ensures
