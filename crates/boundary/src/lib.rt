@@ -1,5 +1,5 @@
-// The engine for callers in other languages: bytes and numbers go in, one number comes out. A state is the caller's bytes, which each call that
-// changes it brings up to date. Built as a static library.
+// The engine for callers in other languages: bytes and numbers go in, one number comes out. A state is the caller's bytes, which each call that changes it
+// brings up to date. The crate boundary_c has its exports for C.
 #![tactic(auto)]
 
 ghost use Rattle.std.specs.Prelude.{◌+◌, ◌*◌, [], ◌∷◌, length, ◌≡◌};
@@ -42,8 +42,7 @@ fn number_of(a: Answer) -> u64
 }
 
 // Where bytes are refused as a plan, the refusal's number times 2^32, and its place; else how many activities and arms the plan has.
-#[unsafe(no_mangle)]
-pub extern "C" fn moonhalyard_accept(s: &[u8]) -> u64
+pub fn moonhalyard_accept(s: &[u8]) -> u64
     ensures { result ≡ accept_number (answer_of (read_plan s.now)) }
 {
     let mut table = [0u32; LENGTH];
@@ -53,8 +52,7 @@ pub extern "C" fn moonhalyard_accept(s: &[u8]) -> u64
 }
 
 // The refusal's number times 2^48, where activity k starts times 2^24, and how many bytes spell it; both 0 where it is refused.
-#[unsafe(no_mangle)]
-pub extern "C" fn moonhalyard_show(s: &[u8], k: u32) -> u64
+pub fn moonhalyard_show(s: &[u8], k: u32) -> u64
     ensures { result ≡ show_number (read_plan s.now) s.now k }
 {
     let mut start: usize = 0;
@@ -77,8 +75,7 @@ fn offers_number(x: Offered) -> u64
 }
 
 // Loads the plan that some bytes spell. The refusal's number times 2^32, and its place; 18 times 2^32 where `state` has not 12,748 bytes.
-#[unsafe(no_mangle)]
-pub extern "C" fn moonhalyard_load(plan: &[u8], state: &mut [u8]) -> u64
+pub fn moonhalyard_load(plan: &[u8], state: &mut [u8]) -> u64
     ensures is { result ≡ engine.load_number plan.now state.old }
     ensures bytes { state.new ≡ engine.load_bytes plan.now state.old }
 {
@@ -91,8 +88,7 @@ pub extern "C" fn moonhalyard_load(plan: &[u8], state: &mut [u8]) -> u64
 }
 
 // Posts a message, with the partner to reply to. The refusal or 0.
-#[unsafe(no_mangle)]
-pub extern "C" fn moonhalyard_post(
+pub fn moonhalyard_post(
     state: &mut [u8],
     partner: u32,
     operation: u32,
@@ -124,8 +120,7 @@ pub extern "C" fn moonhalyard_post(
 }
 
 // Collects a message into the first 32 bytes of `message`. The refusal or 0; 18 where `message` has fewer.
-#[unsafe(no_mangle)]
-pub extern "C" fn moonhalyard_collect(state: &mut [u8], message: &mut [u8]) -> u32
+pub fn moonhalyard_collect(state: &mut [u8], message: &mut [u8]) -> u32
     ensures is { result ≡ engine.collect_number state.old message.old }
     ensures bytes { state.new ≡ engine.collect_bytes state.old message.old }
     ensures message { message.new ≡ engine.collect_message state.old message.old }
@@ -144,8 +139,7 @@ pub extern "C" fn moonhalyard_collect(state: &mut [u8], message: &mut [u8]) -> u
 }
 
 // Drops the message that waits at a place, into the first 32 bytes of `message`. The refusal or 0; 18 where `message` has fewer.
-#[unsafe(no_mangle)]
-pub extern "C" fn moonhalyard_drop(state: &mut [u8], place: usize, message: &mut [u8]) -> u32
+pub fn moonhalyard_drop(state: &mut [u8], place: usize, message: &mut [u8]) -> u32
     ensures is { result ≡ engine.drop_number place state.old message.old }
     ensures bytes { state.new ≡ engine.drop_bytes place state.old message.old }
     ensures message { message.new ≡ engine.drop_message place state.old message.old }
@@ -165,8 +159,7 @@ pub extern "C" fn moonhalyard_drop(state: &mut [u8], place: usize, message: &mut
 
 // The step that a choice would take, not taken: the refusal's number times 2^32, the slot times 2^24, the activity times 2^16, the message place
 // times 2^8.
-#[unsafe(no_mangle)]
-pub extern "C" fn moonhalyard_offer(state: &[u8], choice: usize) -> u64
+pub fn moonhalyard_offer(state: &[u8], choice: usize) -> u64
     ensures { result ≡ engine.offer_number choice state.now }
 {
     let k = store::unpack(state);
@@ -174,8 +167,7 @@ pub extern "C" fn moonhalyard_offer(state: &[u8], choice: usize) -> u64
 }
 
 // How much is offered: the refusal's number times 2^40, 2^32 where something is held, and how many steps.
-#[unsafe(no_mangle)]
-pub extern "C" fn moonhalyard_offers(state: &[u8]) -> u64
+pub fn moonhalyard_offers(state: &[u8]) -> u64
     ensures { result ≡ engine.offers_of state.now }
 {
     let k = store::unpack(state);
@@ -184,8 +176,7 @@ pub extern "C" fn moonhalyard_offers(state: &[u8]) -> u64
 
 // Writes the steps that are offered from the choice `first` on into the front of `out`, as `moonhalyard_offer` answers them, as many as there is room for.
 // How many these are, or the refusal's number times 2^32.
-#[unsafe(no_mangle)]
-pub extern "C" fn moonhalyard_list(state: &[u8], first: u32, out: &mut [u64]) -> u64
+pub fn moonhalyard_list(state: &[u8], first: u32, out: &mut [u64]) -> u64
     ensures is { result ≡ engine.list_number first state.now out.old }
     ensures out { out.new ≡ engine.list_out first state.now out.old }
 {
@@ -195,8 +186,7 @@ pub extern "C" fn moonhalyard_list(state: &[u8], first: u32, out: &mut [u64]) ->
 }
 
 // Takes the step with a choice: as `moonhalyard_offer` answers, with the number of the order's end, if any, and 2^40 times that of the fault by which it ended so.
-#[unsafe(no_mangle)]
-pub extern "C" fn moonhalyard_step(state: &mut [u8], choice: usize) -> u64
+pub fn moonhalyard_step(state: &mut [u8], choice: usize) -> u64
     ensures is { result ≡ engine.step_of choice state.old }
     ensures bytes { state.new ≡ engine.step_bytes choice state.old }
 {
@@ -211,8 +201,7 @@ pub extern "C" fn moonhalyard_step(state: &mut [u8], choice: usize) -> u64
 }
 
 // Takes the steps with these choices, as far as the budget goes, which is left with what remains of it. The refusal or 0.
-#[unsafe(no_mangle)]
-pub extern "C" fn moonhalyard_run(state: &mut [u8], choices: &[usize], budget: &mut usize) -> u32
+pub fn moonhalyard_run(state: &mut [u8], choices: &[usize], budget: &mut usize) -> u32
     ensures is { result ≡ (engine.ran_in choices.now budget.old state.old).refusal }
     ensures bytes { state.new ≡ engine.run_bytes choices.now budget.old state.old }
     ensures left { budget.new + (engine.ran_in choices.now budget.old state.old).taken ≡ budget.old }
@@ -223,8 +212,7 @@ pub extern "C" fn moonhalyard_run(state: &mut [u8], choices: &[usize], budget: &
 }
 
 // The same, and the answer of each step taken is put into `told`, as `moonhalyard_step` answers it, as far as there is room.
-#[unsafe(no_mangle)]
-pub extern "C" fn moonhalyard_tell(
+pub fn moonhalyard_tell(
     state: &mut [u8],
     choices: &[usize],
     budget: &mut usize,

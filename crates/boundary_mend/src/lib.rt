@@ -1,4 +1,5 @@
-// The mending of padded plans for callers in other languages: bytes go in and out of lent buffers, and one number comes out. Built as a static library.
+// The mending of padded plans for callers in other languages: bytes go in and out of lent buffers, and one number comes out. The crate boundary_mend_c has its
+// exports for C.
 #![tactic(auto)]
 
 ghost use Rattle.std.specs.Prelude.{length, ◌≡◌};
@@ -20,8 +21,7 @@ fn number_of(a: Answer) -> u64
 }
 
 // Mends a padded plan into `out`: the refusal's number times 2^32 and its place, or the groups cut times 2^16 and how many bytes were written.
-#[unsafe(no_mangle)]
-pub extern "C" fn moonhalyard_mend(s: &[u8], out: &mut [u8]) -> u64
+pub fn moonhalyard_mend(s: &[u8], out: &mut [u8]) -> u64
     ensures is { result ≡ answer_number (answer_of s.now (read_padded s.now) (length out.old)) }
     ensures bytes { out.new ≡ buffer_of (read_padded s.now) out.old }
 {

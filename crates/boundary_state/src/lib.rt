@@ -1,5 +1,5 @@
 // For callers in other languages: the version of the library, a state of any version brought up to date, and the seal of bytes that are kept. A state of today
-// comes out as it is, and one of an older version as the same state of today. Built as a static library.
+// comes out as it is, and one of an older version as the same state of today. The crate boundary_state_c has its exports for C.
 #![tactic(auto)]
 
 mod older;
@@ -9,16 +9,14 @@ ghost use Rattle.seal.specs.Sealed.{seal_of};
 ghost use Rattle.boundary_state.specs.Upgrade.{upgrade_number, upgrade_bytes};
 
 // The version: 10,000 for each first number, 100 for each second, and the third.
-#[unsafe(no_mangle)]
-pub extern "C" fn moonhalyard_version() -> u32
+pub fn moonhalyard_version() -> u32
     ensures { result ≡ 10000 }
 {
     10000
 }
 
 // Brings the state that `old` holds, of whatever version, into `state`. 0; 17 where it holds none; 18 where `state` has not 12,748 bytes.
-#[unsafe(no_mangle)]
-pub extern "C" fn moonhalyard_upgrade(old: &[u8], state: &mut [u8]) -> u32
+pub fn moonhalyard_upgrade(old: &[u8], state: &mut [u8]) -> u32
     ensures is { result ≡ upgrade_number old.now state.old }
     ensures bytes { state.new ≡ upgrade_bytes old.now state.old }
 {
@@ -45,8 +43,7 @@ pub extern "C" fn moonhalyard_upgrade(old: &[u8], state: &mut [u8]) -> u32
 }
 
 // The seal of these bytes, to be kept behind them: read again, they are whole where their seal is the one that was kept.
-#[unsafe(no_mangle)]
-pub extern "C" fn moonhalyard_seal(bytes: &[u8]) -> u64
+pub fn moonhalyard_seal(bytes: &[u8]) -> u64
     ensures { result ≡ seal_of bytes.now }
 {
     seal::seal(bytes)

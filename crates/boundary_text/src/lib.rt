@@ -1,5 +1,5 @@
-// A plan as text for callers in other languages: the crate sheet makes rows of it, the crate writer bytes; and back, by the crate lettering. Built as a
-// static library.
+// A plan as text for callers in other languages: the crate sheet makes rows of it, the crate writer bytes; and back, by the crate lettering. The crate
+// boundary_text_c has its exports for C.
 #![tactic(auto)]
 
 use plan::table::{LENGTH, Table};
@@ -50,8 +50,7 @@ fn number_of(a: Answer, lines: &[u32; 4355]) -> u64 {
 
 // Writes the plan that a text says into `plan`: how many bytes it has; or the refusal's number times 2^32, and the line in trouble. The reasons of the
 // crate sheet are told as 32 and more.
-#[unsafe(no_mangle)]
-pub extern "C" fn moonhalyard_text(text: &[u8], plan: &mut [u8]) -> u64 {
+pub fn moonhalyard_text(text: &[u8], plan: &mut [u8]) -> u64 {
     let mut rows = [0u32; 87100];
     let mut lines = [0u32; 4355];
     let r = sheet::read(text, &mut rows, &mut lines);
@@ -94,8 +93,7 @@ fn drawn(
 }
 
 // Writes the text of a plan into `text`: how long it is; or the refusal's number times 2^32, and its place, or, for 18, how long the text is.
-#[unsafe(no_mangle)]
-pub extern "C" fn moonhalyard_draw(s: &[u8], text: &mut [u8]) -> u64 {
+pub fn moonhalyard_draw(s: &[u8], text: &mut [u8]) -> u64 {
     let mut table = [0u32; LENGTH];
     let mut correlation = [0u8; 16];
     let a = plan::accept_over(s, &mut table, &mut correlation);

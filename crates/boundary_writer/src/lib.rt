@@ -1,4 +1,5 @@
-// The plan writer for callers in other languages: tables and bytes go in and out of lent buffers, and one number comes out. Built as a static library.
+// The plan writer for callers in other languages: tables and bytes go in and out of lent buffers, and one number comes out. The crate boundary_writer_c has its
+// exports for C.
 #![tactic(auto)]
 
 ghost use Rattle.std.specs.Prelude.{length, ◌≡◌};
@@ -21,8 +22,7 @@ fn number_of(a: Answer) -> u64
 }
 
 // Writes a table's plan into `out`: the refusal's number times 2^32 and its place, or how many bytes were written.
-#[unsafe(no_mangle)]
-pub extern "C" fn moonhalyard_write(table: &[u32], out: &mut [u8]) -> u64
+pub fn moonhalyard_write(table: &[u32], out: &mut [u8]) -> u64
     ensures is { result ≡ answer_number (answer_for (read_rows table.now) (length out.old)) }
     ensures bytes { out.new ≡ bytes_for (read_rows table.now) out.old }
 {
@@ -31,8 +31,7 @@ pub extern "C" fn moonhalyard_write(table: &[u32], out: &mut [u8]) -> u64
 }
 
 // Gives the table of the plan s into `out`: the refusal's number times 2^32 and its place, or how many numbers were given.
-#[unsafe(no_mangle)]
-pub extern "C" fn moonhalyard_rows(s: &[u8], out: &mut [u32]) -> u64
+pub fn moonhalyard_rows(s: &[u8], out: &mut [u32]) -> u64
     ensures is { result ≡ answer_number (rows_answer (read_plan s.now) (length out.old)) }
     ensures table { out.new ≡ rows_for (read_plan s.now) out.old }
 {
