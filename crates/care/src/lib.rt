@@ -5,19 +5,19 @@ mod ordinary;
 mod paging;
 mod retaining;
 
-use drawing::put_error;
+use drawing::{Out, put_error, runtime_of};
 use ordinary::Kind;
 pub use paging::page;
 use papers::{Desk, failed};
 
 // What is not done, and why.
-fn not_done(desk: Desk, number: u64, why: &[u8], out: &mut [u8; 4096]) -> Desk {
+fn not_done(desk: Desk, number: u64, why: &[u8], out: &mut Out) -> Desk {
     let used = put_error(out, desk.used, number, why);
     failed(desk, used)
 }
 
 // Whether the file is the one that this desk saved or opened last, and holds something else now: another desk saved it since.
-fn is_anothers(desk: Desk, file: &[u8]) -> bool {
+fn is_anothers(desk: Desk, file: &[u8], runtime: HostRuntime) -> bool {
     if desk.bold {
         return false;
     }
@@ -27,18 +27,12 @@ fn is_anothers(desk: Desk, file: &[u8]) -> bool {
     if desk.file != papers::sum_of(file) {
         return false;
     }
-    ordinary::sum_at(file) != desk.seen
+    ordinary::sum_at(runtime, file) != desk.seen
 }
 
 // A save over an ordinary file.
-fn replacing(
-    desk: Desk,
-    file: &[u8],
-    number: u64,
-    names: &[u8; 16896],
-    out: &mut [u8; 4096],
-) -> Desk {
-    if is_anothers(desk, file) {
+fn replacing(desk: Desk, file: &[u8], number: u64, names: &[u8; 16896], out: &mut Out) -> Desk {
+    if is_anothers(desk, file, runtime_of(out)) {
         return not_done(
             desk,
             number,
@@ -50,14 +44,8 @@ fn replacing(
 }
 
 // A save over an ordinary file, which stays as FILE.old.
-fn replaced(
-    desk: Desk,
-    file: &[u8],
-    number: u64,
-    names: &[u8; 16896],
-    out: &mut [u8; 4096],
-) -> Desk {
-    let e = retaining::retained(file);
+fn replaced(desk: Desk, file: &[u8], number: u64, names: &[u8; 16896], out: &mut Out) -> Desk {
+    let e = retaining::retained(runtime_of(out), file);
     if e != 0 {
         let used = papers::put_failed(out, desk.used, number, b"keep what it holds as FILE.old", e);
         return failed(desk, used);
@@ -66,13 +54,7 @@ fn replaced(
 }
 
 // A save over a file that holds a plan: a desk without one is likely to have forgotten to open it.
-fn over_plan(
-    desk: Desk,
-    file: &[u8],
-    number: u64,
-    names: &[u8; 16896],
-    out: &mut [u8; 4096],
-) -> Desk {
+fn over_plan(desk: Desk, file: &[u8], number: u64, names: &[u8; 16896], out: &mut Out) -> Desk {
     let state = desk.state;
     if state.length == 0 {
         if !desk.bold {
@@ -88,17 +70,11 @@ fn over_plan(
 }
 
 // Saves the state.
-pub fn save(
-    desk: Desk,
-    file: &[u8],
-    number: u64,
-    names: &[u8; 16896],
-    out: &mut [u8; 4096],
-) -> Desk {
+pub fn save(desk: Desk, file: &[u8], number: u64, names: &[u8; 16896], out: &mut Out) -> Desk {
     if !desk.spoken {
         return papers::save(desk, file, number, names, out);
     }
-    let k = ordinary::kind_of(file);
+    let k = ordinary::kind_of(runtime_of(out), file);
     match k {
         Kind::Nothing => papers::save(desk, file, number, names, out),
         Kind::Ordinary => replacing(desk, file, number, names, out),

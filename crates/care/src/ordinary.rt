@@ -1,5 +1,8 @@
 // What has the name of a file.
-use libc::{SEEK_END, SEEK_SET};
+use papers::system;
+use papers::system::{DENIED, FOLDER};
+use std::fs::File;
+use std::io::{Seek, SeekFrom};
 
 // Nothing, or what cannot be opened; an ordinary file, with a saved plan or not; a folder; a link; or something else: a device, a pipe.
 #[derive(Clone, Copy)]
@@ -12,54 +15,34 @@ pub(crate) enum Kind {
     Other,
 }
 
-fn set_at(name: &mut [u8; 4096], i: usize, b: u8) {
-    if i < 4095 {
-        name[i] = b;
-    }
-}
-
-// A name as the system takes it, with zeros behind it.
-fn fill(name: &mut [u8; 4096], file: &[u8]) {
-    let mut i = 0;
-    while i < file.len() {
-        set_at(name, i, file[i]);
-        i += 1;
-    }
-}
-
-fn link_length(name: [u8; 4096]) -> isize {
-    let mut path = name;
-    path[4095] = 0;
-    let mut target = [0u8; 1];
-    libc::readlink(&path, &mut target)
-}
-
-fn is_link(file: &[u8]) -> bool {
+fn is_link(runtime: HostRuntime, file: &[u8]) -> bool {
     if 4095 < file.len() {
         return false;
     }
-    let mut name = [0u8; 4096];
-    fill(&mut name, file);
-    0 <= link_length(name)
+    system::is_link(runtime, file)
 }
 
 // In an ordinary file one may go beyond its end; in a device or a pipe not. One of 2 GiB or more is none that the desk would replace.
-fn is_ordinary(fd: i32) -> bool {
-    let end = libc::lseek(fd, 0, SEEK_END);
-    if end < 0 {
+fn is_ordinary(opened: &File) -> bool {
+    let mut file = opened;
+    let Ok(end) = file.seek(SeekFrom::End(0)) else {
         return false;
-    }
+    };
     if 2147483646 < end {
         return false;
     }
-    libc::lseek(fd, 2147483647, SEEK_SET) == 2147483647
+    match file.seek(SeekFrom::Start(2147483647)) {
+        Ok(at) => at == 2147483647,
+        Err(_) => false,
+    }
 }
 
 // Whether an ordinary file begins with a saved state, of whatever version, that has a plan.
-fn has_plan(fd: i32) -> bool {
+fn has_plan(opened: &File) -> bool {
     let mut front = [0u8; 12748];
-    libc::lseek(fd, 0, SEEK_SET);
-    let n = io::read_full(fd, &mut front);
+    let mut file = opened;
+    let _ = file.seek(SeekFrom::Start(0));
+    let n = system::read_full(opened, &mut front);
     let kept = papers::kept_front(&front[..n]);
     if kept.refused {
         return false;
@@ -68,80 +51,71 @@ fn has_plan(fd: i32) -> bool {
     0 < state.length
 }
 
-fn kind_at(fd: i32) -> Kind {
-    if !is_ordinary(fd) {
+fn kind_at(opened: &File) -> Kind {
+    if !is_ordinary(opened) {
         return Kind::Other;
     }
-    if has_plan(fd) {
+    if has_plan(opened) {
         return Kind::Plan;
     }
     Kind::Ordinary
 }
 
-fn kind_in(fd: i32) -> Kind {
-    let k = kind_at(fd);
-    libc::close(fd);
-    k
-}
-
 // A pipe would wait for its other end if it were opened to read alone.
-fn opened(file: &[u8]) -> i32 {
-    let fd = os::open_update(file);
-    if fd < 0 {
-        if os::errno() == libc::EACCES {
-            return os::open_read(file);
+fn opened(runtime: HostRuntime, file: &[u8]) -> Result<File, i32> {
+    match system::open_update(runtime, file) {
+        Ok(opened) => Ok(opened),
+        Err(reason) => {
+            if reason == DENIED {
+                return system::open_read(runtime, file);
+            }
+            Err(reason)
         }
     }
-    fd
 }
 
 // What could not be opened.
-fn kind_unopened() -> Kind {
-    if os::errno() == libc::EISDIR {
+fn kind_unopened(reason: i32) -> Kind {
+    if reason == FOLDER {
         return Kind::Folder;
     }
     Kind::Nothing
 }
 
-pub(crate) fn kind_of(file: &[u8]) -> Kind {
-    if is_link(file) {
+pub(crate) fn kind_of(runtime: HostRuntime, file: &[u8]) -> Kind {
+    if is_link(runtime, file) {
         return Kind::Link;
     }
-    let fd = opened(file);
-    if fd < 0 {
-        return kind_unopened();
+    match opened(runtime, file) {
+        Ok(opened) => kind_at(&opened),
+        Err(reason) => kind_unopened(reason),
     }
-    kind_in(fd)
 }
 
-fn sum_in(fd: i32) -> u64 {
+fn sum_in(opened: File) -> u64 {
     let mut packed = [0u8; papers::READ];
-    let n = io::read_full(fd, &mut packed);
-    libc::close(fd);
+    let n = system::read_full(&opened, &mut packed);
     papers::sum_of(&packed[..n])
 }
 
 // The sum of what a file holds, as far as a saved file goes; 0 where it cannot be opened.
-pub(crate) fn sum_at(file: &[u8]) -> u64 {
-    let fd = os::open_read(file);
-    if fd < 0 {
-        return 0;
+pub(crate) fn sum_at(runtime: HostRuntime, file: &[u8]) -> u64 {
+    match system::open_read(runtime, file) {
+        Ok(opened) => sum_in(opened),
+        Err(_) => 0,
     }
-    sum_in(fd)
 }
 
-fn is_page_in(fd: i32) -> bool {
+fn is_page_in(opened: File) -> bool {
     let mut front = [0u8; page::FRONT];
-    let n = io::read_full(fd, &mut front);
-    libc::close(fd);
+    let n = system::read_full(&opened, &mut front);
     page::is_front(&front[..n])
 }
 
 // Whether a file is a page of the desk.
-pub(crate) fn is_page(file: &[u8]) -> bool {
-    let fd = os::open_read(file);
-    if fd < 0 {
-        return false;
+pub(crate) fn is_page(runtime: HostRuntime, file: &[u8]) -> bool {
+    match system::open_read(runtime, file) {
+        Ok(opened) => is_page_in(opened),
+        Err(_) => false,
     }
-    is_page_in(fd)
 }

@@ -2,26 +2,28 @@
 // this one, and never half of one.
 use super::ordinary::Kind;
 use super::{not_done, ordinary, retaining};
-use drawing::put_refusal;
-use papers::{Desk, failed, failure, put_name, replaced_by, shown};
+use drawing::{Out, put_refusal, runtime_of};
+use papers::{Desk, failed, put_name, replaced_by, shown, system};
+use std::fs::File;
+use std::os::fd::AsRawFd;
 
-// The page through a descriptor, and on disk: 0, or the reason.
-fn written(fd: i32, desk: Desk, names: &[u8; 16896]) -> i32 {
+// Too many files are open, as the system numbers it.
+const MANY_FILES: i32 = 24;
+
+// The page in a file that is open, and on disk: 0, or the reason.
+fn written(runtime: HostRuntime, file: File, desk: Desk, names: &[u8; 16896]) -> i32 {
     let state = desk.state;
     let tally = desk.tally;
-    let mut sheet = drawing::page_to(fd);
+    let mut sheet = drawing::page_to(file, runtime);
     let used = page::put_page(&mut sheet, 0, names, state, tally);
-    let left = drawing::flush(&sheet, used);
+    let left = drawing::flush(&mut sheet, used);
     if drawing::is_lost(left) {
-        return failure();
+        return drawing::reason_of(&sheet);
     }
-    if libc::fsync(fd) < 0 {
-        return failure();
-    }
-    0
+    drawing::synced(&sheet)
 }
 
-// Whether a page can be put through a descriptor: 0 would be standard output, and beyond 255 there is no room for it.
+// Whether a page is put through a descriptor: 0 would be standard input, and beyond 255 there are too many.
 fn is_taken(fd: i32) -> bool {
     if fd < 1 {
         return false;
@@ -30,56 +32,63 @@ fn is_taken(fd: i32) -> bool {
 }
 
 // The same, and the file is closed.
-fn written_whole(fd: i32, desk: Desk, names: &[u8; 16896]) -> i32 {
-    let mut e = libc::EMFILE;
-    if is_taken(fd) {
-        e = written(fd, desk, names);
+fn written_whole(runtime: HostRuntime, file: File, desk: Desk, names: &[u8; 16896]) -> i32 {
+    if is_taken(file.as_raw_fd()) {
+        return written(runtime, file, desk, names);
     }
-    if libc::close(fd) < 0 {
-        if e == 0 {
-            return failure();
-        }
-    }
-    e
+    MANY_FILES
 }
 
 // The page in a new file, whose name `new` becomes; that file then takes the name of the old one. 0, or the reason.
-fn replaced(new: &mut [u8], file: &[u8], desk: Desk, names: &[u8; 16896]) -> i32 {
-    let fd = os::create_temp(new);
-    if fd < 0 {
-        return failure();
-    }
-    let e = written_whole(fd, desk, names);
+fn replaced(
+    runtime: HostRuntime,
+    new: &mut [u8],
+    file: &[u8],
+    desk: Desk,
+    names: &[u8; 16896],
+) -> i32 {
+    let e = match system::create_temp(runtime, new) {
+        Ok(made) => written_whole(runtime, made, desk, names),
+        Err(reason) => return reason,
+    };
     if e != 0 {
-        os::unlink(new);
+        system::unlink(runtime, new);
         return e;
     }
-    replaced_by(new, file)
+    replaced_by(runtime, new, file)
 }
 
-fn replaced_at(name: &mut [u8], n: usize, file: &[u8], desk: Desk, names: &[u8; 16896]) -> i32 {
+fn replaced_at(
+    runtime: HostRuntime,
+    name: &mut [u8],
+    n: usize,
+    file: &[u8],
+    desk: Desk,
+    names: &[u8; 16896],
+) -> i32 {
     if name.len() <= n {
-        return libc::ENAMETOOLONG;
+        return system::LONG_NAME;
     }
-    replaced(&mut name[0..n], file, desk, names)
+    replaced(runtime, &mut name[0..n], file, desk, names)
 }
 
 fn replaced_in(
+    runtime: HostRuntime,
     name: &mut [u8; 4096],
     n: usize,
     file: &[u8],
     desk: Desk,
     names: &[u8; 16896],
 ) -> i32 {
-    replaced_at(name, n, file, desk, names)
+    replaced_at(runtime, name, n, file, desk, names)
 }
 
 // The page takes the name, whatever has it.
-fn made(desk: Desk, file: &[u8], number: u64, names: &[u8; 16896], out: &mut [u8; 4096]) -> Desk {
+fn made(desk: Desk, file: &[u8], number: u64, names: &[u8; 16896], out: &mut Out) -> Desk {
     let mut name = [0u8; 4096];
     let at = put_name(&mut name, 0, file);
     let n = put_name(&mut name, at, b".XXXXXX");
-    let e = replaced_in(&mut name, n, file, desk, names);
+    let e = replaced_in(runtime_of(out), &mut name, n, file, desk, names);
     if e == 0 {
         let used = put_refusal(out, desk.used, b"page", 0);
         return shown(desk, used);
@@ -95,12 +104,12 @@ fn over_other(
     number: u64,
     names: &[u8; 16896],
     why: &[u8],
-    out: &mut [u8; 4096],
+    out: &mut Out,
 ) -> Desk {
     if !desk.bold {
         return not_done(desk, number, why, out);
     }
-    let e = retaining::retained(file);
+    let e = retaining::retained(runtime_of(out), file);
     if e != 0 {
         let used = papers::put_failed(out, desk.used, number, b"keep what it holds as FILE.old", e);
         return failed(desk, used);
@@ -109,14 +118,8 @@ fn over_other(
 }
 
 // The page over an ordinary file without a saved plan: one that is a page is made anew.
-fn over_ordinary(
-    desk: Desk,
-    file: &[u8],
-    number: u64,
-    names: &[u8; 16896],
-    out: &mut [u8; 4096],
-) -> Desk {
-    if ordinary::is_page(file) {
+fn over_ordinary(desk: Desk, file: &[u8], number: u64, names: &[u8; 16896], out: &mut Out) -> Desk {
+    if ordinary::is_page(runtime_of(out), file) {
         return made(desk, file, number, names, out);
     }
     over_other(
@@ -130,17 +133,11 @@ fn over_ordinary(
 }
 
 // The state as a page.
-pub fn page(
-    desk: Desk,
-    file: &[u8],
-    number: u64,
-    names: &[u8; 16896],
-    out: &mut [u8; 4096],
-) -> Desk {
+pub fn page(desk: Desk, file: &[u8], number: u64, names: &[u8; 16896], out: &mut Out) -> Desk {
     if !desk.spoken {
         return made(desk, file, number, names, out);
     }
-    let k = ordinary::kind_of(file);
+    let k = ordinary::kind_of(runtime_of(out), file);
     match k {
         Kind::Nothing => made(desk, file, number, names, out),
         Kind::Ordinary => over_ordinary(desk, file, number, names, out),

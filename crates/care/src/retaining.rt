@@ -1,25 +1,28 @@
 // A file that is to be replaced is copied to FILE.old: whole to a new file, which then takes that name.
-use papers::{failure, put_name, replaced_by};
+use papers::{put_name, replaced_by, system};
+use std::fs::File;
 
 // What one more piece of a copy comes to: it goes on, it is done, or the reason why it failed.
-fn copied_some(from: i32, to: i32) -> i32 {
-    let mut piece = io::large_buffer();
-    let got = libc::read(from, &mut piece);
-    if got < 0 {
-        return failure();
+fn copied_some(from: &File, to: &File) -> i32 {
+    let mut piece = [0u8; 65536];
+    match system::read_some(from, &mut piece) {
+        Ok(n) => {
+            if n == 0 {
+                return 0;
+            }
+            let mut copy = to;
+            let e = drawing::write_all(&mut copy, &piece[..n]);
+            if e == 0 {
+                return -1;
+            }
+            e
+        }
+        Err(reason) => reason,
     }
-    let n = io::count(got, &piece);
-    if n == 0 {
-        return 0;
-    }
-    if io::write_all(to, &piece[..n]) {
-        return -1;
-    }
-    failure()
 }
 
 // A copy of all that follows: 0, or the reason. It goes on for as long as a file can be.
-fn copied(from: i32, to: i32) -> i32 {
+fn copied(from: &File, to: &File) -> i32 {
     let mut turns: u64 = 1000000000;
     while turns > 0 {
         let e = copied_some(from, to);
@@ -32,68 +35,71 @@ fn copied(from: i32, to: i32) -> i32 {
 }
 
 // A copy in a file that is open, which is on disk then, and closed.
-fn copied_whole(from: i32, to: i32) -> i32 {
-    let e = copied(from, to);
-    let s = libc::fsync(to);
-    let c = libc::close(to);
+fn copied_whole(from: &File, to: File) -> i32 {
+    let e = copied(from, &to);
+    let s = system::synced(&to);
     if e != 0 {
         return e;
     }
-    if s < 0 {
-        return failure();
-    }
-    if c < 0 {
-        return failure();
-    }
-    0
+    s
 }
 
 // A copy to a new file, whose name `new` becomes, and which then has the name `old`.
-fn copied_to(from: i32, new: &mut [u8], old: &[u8]) -> i32 {
-    let to = os::create_temp(new);
-    if to < 0 {
-        return failure();
-    }
-    let e = copied_whole(from, to);
+fn copied_to(runtime: HostRuntime, from: &File, new: &mut [u8], old: &[u8]) -> i32 {
+    let e = match system::create_temp(runtime, new) {
+        Ok(to) => copied_whole(from, to),
+        Err(reason) => return reason,
+    };
     if e != 0 {
-        os::unlink(new);
+        system::unlink(runtime, new);
         return e;
     }
-    replaced_by(new, old)
+    replaced_by(runtime, new, old)
 }
 
-fn copied_at(from: i32, name: &mut [u8], n: usize, old: &[u8], m: usize) -> i32 {
+fn copied_at(
+    runtime: HostRuntime,
+    from: &File,
+    name: &mut [u8],
+    n: usize,
+    old: &[u8],
+    m: usize,
+) -> i32 {
     if name.len() <= n {
-        return libc::ENAMETOOLONG;
+        return system::LONG_NAME;
     }
     if old.len() <= m {
-        return libc::ENAMETOOLONG;
+        return system::LONG_NAME;
     }
-    copied_to(from, &mut name[0..n], &old[0..m])
+    copied_to(runtime, from, &mut name[0..n], &old[0..m])
 }
 
-fn copied_in(from: i32, name: &mut [u8; 4096], n: usize, old: &[u8; 4096], m: usize) -> i32 {
-    copied_at(from, name, n, old, m)
+fn copied_in(
+    runtime: HostRuntime,
+    from: &File,
+    name: &mut [u8; 4096],
+    n: usize,
+    old: &[u8; 4096],
+    m: usize,
+) -> i32 {
+    copied_at(runtime, from, name, n, old, m)
 }
 
-// The file at this descriptor stays as FILE.old.
-fn kept_as_old(from: i32, file: &[u8]) -> i32 {
+// What an open file holds stays as FILE.old.
+fn kept_as_old(runtime: HostRuntime, from: &File, file: &[u8]) -> i32 {
     let mut old = [0u8; 4096];
     let mut new = [0u8; 4096];
     let at = put_name(&mut old, 0, file);
     let m = put_name(&mut old, at, b".old");
     let at = put_name(&mut new, 0, file);
     let n = put_name(&mut new, at, b".old.XXXXXX");
-    copied_in(from, &mut new, n, &old, m)
+    copied_in(runtime, from, &mut new, n, &old, m)
 }
 
 // What a file holds stays as FILE.old: 0, or the reason.
-pub(crate) fn retained(file: &[u8]) -> i32 {
-    let from = os::open_read(file);
-    if from < 0 {
-        return failure();
+pub(crate) fn retained(runtime: HostRuntime, file: &[u8]) -> i32 {
+    match system::open_read(runtime, file) {
+        Ok(from) => kept_as_old(runtime, &from, file),
+        Err(reason) => reason,
     }
-    let e = kept_as_old(from, file);
-    libc::close(from);
-    e
 }

@@ -8,7 +8,7 @@ use super::sending::{is_never_taken, never_leaves};
 use super::swallowing::swallows;
 use super::undoing::{forgets, loses};
 use drawing::{
-    number_at, put, put_activity, put_byte, put_fault_name, put_next, put_pair, put_variable,
+    Out, number_at, put, put_activity, put_byte, put_fault_name, put_next, put_pair, put_variable,
 };
 use plan::table::Table;
 
@@ -47,7 +47,7 @@ fn is_earned(table: &Table, correlation: &[u8; 16], n: usize, what: u32) -> bool
     }
 }
 
-fn put_variable_words(out: &mut [u8; 4096], used: usize, names: &[u8; 16896], what: u32) -> usize {
+fn put_variable_words(out: &mut Out, used: usize, names: &[u8; 16896], what: u32) -> usize {
     if what < 16 {
         return used;
     }
@@ -68,7 +68,7 @@ fn put_variable_words(out: &mut [u8; 4096], used: usize, names: &[u8; 16896], wh
 }
 
 // Row n may be open together with row j.
-fn put_rival(out: &mut [u8; 4096], used: usize, j: usize) -> usize {
+fn put_rival(out: &mut Out, used: usize, j: usize) -> usize {
     let mut at = put(out, used, b"it may be open together with activity");
     at = put_next(out, at, j as u64);
     put(
@@ -79,7 +79,7 @@ fn put_rival(out: &mut [u8; 4096], used: usize, j: usize) -> usize {
 }
 
 // The fault part for this number never runs.
-fn put_never_runs(out: &mut [u8; 4096], used: usize, names: &[u8; 16896], number: u32) -> usize {
+fn put_never_runs(out: &mut Out, used: usize, names: &[u8; 16896], number: u32) -> usize {
     let mut at = put(out, used, b"its fault part ");
     at = put_fault_name(out, at, names, b"", number);
     put(
@@ -90,7 +90,7 @@ fn put_never_runs(out: &mut [u8; 4096], used: usize, names: &[u8; 16896], number
 }
 
 fn put_words(
-    out: &mut [u8; 4096],
+    out: &mut Out,
     used: usize,
     names: &[u8; 16896],
     table: &Table,
@@ -140,7 +140,7 @@ fn put_words(
 }
 
 fn put_warning(
-    out: &mut [u8; 4096],
+    out: &mut Out,
     used: usize,
     names: &[u8; 16896],
     table: &Table,
@@ -158,7 +158,7 @@ fn put_warning(
 }
 
 fn put_earned(
-    out: &mut [u8; 4096],
+    out: &mut Out,
     used: usize,
     names: &[u8; 16896],
     table: &Table,
@@ -174,7 +174,7 @@ fn put_earned(
 
 // What is warned of at activity n.
 fn put_warnings_at(
-    out: &mut [u8; 4096],
+    out: &mut Out,
     used: usize,
     names: &[u8; 16896],
     table: &Table,
@@ -192,7 +192,7 @@ fn put_warnings_at(
 
 // A line for each warning, in the order of the activities; nothing where there is none.
 pub fn put_warnings(
-    out: &mut [u8; 4096],
+    out: &mut Out,
     used: usize,
     names: &[u8; 16896],
     table: &Table,
@@ -240,7 +240,7 @@ fn count_of(table: &Table, correlation: &[u8; 16], activities: usize) -> u64 {
 
 // The answer to a check: how many warnings there are, each of them, and a blank line.
 pub fn put_check(
-    out: &mut [u8; 4096],
+    out: &mut Out,
     used: usize,
     names: &[u8; 16896],
     table: &Table,

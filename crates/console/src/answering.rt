@@ -1,9 +1,9 @@
 // What is wrong with a line.
 use commands::Trouble;
-use drawing::put_error;
+use drawing::{Out, put_error};
 use papers::{Desk, failed};
 
-fn put_trouble(out: &mut [u8; 4096], used: usize, number: u64, why: Trouble) -> usize {
+fn put_trouble(out: &mut Out, used: usize, number: u64, why: Trouble) -> usize {
     match why {
         Trouble::Unknown => put_error(out, used, number, b"no such command"),
         Trouble::Missing => put_error(out, used, number, b"a word is missing"),
@@ -14,7 +14,7 @@ fn put_trouble(out: &mut [u8; 4096], used: usize, number: u64, why: Trouble) -> 
 }
 
 // The line with this number is wrong.
-pub fn wrong(desk: Desk, number: u64, why: Trouble, out: &mut [u8; 4096]) -> Desk {
+pub fn wrong(desk: Desk, number: u64, why: Trouble, out: &mut Out) -> Desk {
     let used = put_trouble(out, desk.used, number, why);
     failed(desk, used)
 }

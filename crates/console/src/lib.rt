@@ -7,7 +7,7 @@ mod taking;
 
 pub use answering::wrong;
 use commands::{Alone, Command, Listed, Numbered, Worded};
-use drawing::put_error;
+use drawing::{Out, put_error};
 pub use lists::{Numbers, before, numbers_of, reply_in, rest_of};
 use machine::{State, Tally};
 use papers::{Desk, failed, shown};
@@ -20,7 +20,7 @@ fn answer_alone(
     number: u64,
     bytes: &mut [u8; 8000],
     names: &mut [u8; 16896],
-    out: &mut [u8; 4096],
+    out: &mut Out,
 ) -> Desk {
     match what {
         Alone::Draw => papers::draw(desk, bytes, names, out),
@@ -36,7 +36,7 @@ fn answer_alone(
 }
 
 // One that changes nothing.
-fn put_alone(desk: Desk, what: Alone, names: &[u8; 16896], out: &mut [u8; 4096]) -> usize {
+fn put_alone(desk: Desk, what: Alone, names: &[u8; 16896], out: &mut Out) -> usize {
     let state = desk.state;
     let tally = desk.tally;
     match what {
@@ -57,7 +57,7 @@ fn answer_worded(
     number: u64,
     bytes: &mut [u8; 8000],
     names: &mut [u8; 16896],
-    out: &mut [u8; 4096],
+    out: &mut Out,
 ) -> Desk {
     match what {
         Worded::Plan => papers::load(desk, word, number, bytes, names, out),
@@ -68,13 +68,7 @@ fn answer_worded(
 }
 
 // The order in a slot.
-fn answer_order(
-    desk: Desk,
-    slot: u32,
-    number: u64,
-    names: &[u8; 16896],
-    out: &mut [u8; 4096],
-) -> Desk {
+fn answer_order(desk: Desk, slot: u32, number: u64, names: &[u8; 16896], out: &mut Out) -> Desk {
     if 15 < slot {
         let used = put_error(out, desk.used, number, b"the slots are 0 to 15");
         return failed(desk, used);
@@ -92,7 +86,7 @@ fn answer_numbered(
     number: u64,
     bytes: &[u8; 8000],
     names: &[u8; 16896],
-    out: &mut [u8; 4096],
+    out: &mut Out,
 ) -> Desk {
     match what {
         Numbered::Show => papers::show(desk, k, bytes, out),
@@ -108,7 +102,7 @@ fn answer_listed(
     line: &[u8],
     from: usize,
     number: u64,
-    out: &mut [u8; 4096],
+    out: &mut Out,
 ) -> Desk {
     match what {
         Listed::Post => taking::post(desk, line, from, number, out),
@@ -123,7 +117,7 @@ pub fn answer(
     number: u64,
     bytes: &mut [u8; 8000],
     names: &mut [u8; 16896],
-    out: &mut [u8; 4096],
+    out: &mut Out,
 ) -> Desk {
     let c = commands::command_of(line);
     match c {

@@ -2,7 +2,7 @@
 use super::answering::wrong;
 use super::lists::{Numbers, Reply, before, numbers_of, reply_in, reply_of, rest_of};
 use commands::Trouble;
-use drawing::{put, put_byte, put_next, put_pair, put_refusal};
+use drawing::{Out, put, put_byte, put_next, put_pair, put_refusal};
 use machine::{Collected, Message, State, Step, Tally};
 use order::End;
 use papers::{Desk, changed};
@@ -29,7 +29,7 @@ pub fn message_of(numbers: &[u32; 1001], count: usize, reply: u32) -> Message {
     }
 }
 
-fn posted(desk: Desk, m: Message, out: &mut [u8; 4096]) -> Desk {
+fn posted(desk: Desk, m: Message, out: &mut Out) -> Desk {
     let before = desk.state;
     let p = mail::post(before, m);
     let used = put_refusal(out, desk.used, b"post", p.refusal);
@@ -46,7 +46,7 @@ fn posted_with(
     number: u64,
     numbers: &[u32; 1001],
     count: usize,
-    out: &mut [u8; 4096],
+    out: &mut Out,
 ) -> Desk {
     if count < 2 {
         return wrong(desk, number, Trouble::Missing, out);
@@ -62,13 +62,7 @@ fn posted_with(
 }
 
 // Posts a message: a partner, an operation, and up to eight values; then the partner to reply to, where one is named.
-pub(crate) fn post(
-    desk: Desk,
-    line: &[u8],
-    from: usize,
-    number: u64,
-    out: &mut [u8; 4096],
-) -> Desk {
+pub(crate) fn post(desk: Desk, line: &[u8], from: usize, number: u64, out: &mut Out) -> Desk {
     let mut numbers = [0u32; 1001];
     let reply = reply_in(line, from);
     let n = numbers_of(before(line, reply.from), from, 11, &mut numbers);
@@ -89,7 +83,7 @@ fn number_of(end: End) -> u64 {
 }
 
 // The number of the fault by which an order ended handled or failed; where it did not, a dash.
-fn put_fault(out: &mut [u8; 4096], used: usize, end: End, fault: u8) -> usize {
+fn put_fault(out: &mut Out, used: usize, end: End, fault: u8) -> usize {
     match end {
         End::Handled | End::Failed => put_next(out, used, fault as u64),
         End::None | End::Well | End::Left => put(out, used, b" -"),
@@ -97,7 +91,7 @@ fn put_fault(out: &mut [u8; 4096], used: usize, end: End, fault: u8) -> usize {
 }
 
 // What a step answers.
-pub fn put_step(out: &mut [u8; 4096], used: usize, x: Step) -> usize {
+pub fn put_step(out: &mut Out, used: usize, x: Step) -> usize {
     if x.refusal != 0 {
         return put_refusal(out, used, b"step", x.refusal);
     }
@@ -111,7 +105,7 @@ pub fn put_step(out: &mut [u8; 4096], used: usize, x: Step) -> usize {
     put_byte(out, at, 10)
 }
 
-pub(crate) fn step(desk: Desk, choice: u32, out: &mut [u8; 4096]) -> Desk {
+pub(crate) fn step(desk: Desk, choice: u32, out: &mut Out) -> Desk {
     let before = desk.state;
     let counted = desk.tally;
     let r = step::take_step(before, choice as usize, counted);
@@ -130,13 +124,7 @@ fn ran_of(state: State, tally: Tally, choices: &[usize], n: usize, budget: u32) 
     run::run(state, choices, &mut left, tally)
 }
 
-fn ran_by(
-    desk: Desk,
-    choices: &[usize; 1000],
-    n: usize,
-    budget: u32,
-    out: &mut [u8; 4096],
-) -> Desk {
+fn ran_by(desk: Desk, choices: &[usize; 1000], n: usize, budget: u32, out: &mut Out) -> Desk {
     let before = desk.state;
     let counted = desk.tally;
     let r = ran_of(before, counted, choices, n, budget);
@@ -147,7 +135,7 @@ fn ran_by(
 }
 
 // Takes steps by a budget and up to 1,000 choices.
-pub(crate) fn run(desk: Desk, line: &[u8], from: usize, number: u64, out: &mut [u8; 4096]) -> Desk {
+pub(crate) fn run(desk: Desk, line: &[u8], from: usize, number: u64, out: &mut Out) -> Desk {
     let mut numbers = [0u32; 1001];
     let n = numbers_of(line, from, 1002, &mut numbers);
     match n {
@@ -163,7 +151,7 @@ pub(crate) fn run(desk: Desk, line: &[u8], from: usize, number: u64, out: &mut [
 }
 
 // A message that is handed out, behind its command word.
-pub fn put_collected(out: &mut [u8; 4096], used: usize, word: &[u8], c: Collected) -> usize {
+pub fn put_collected(out: &mut Out, used: usize, word: &[u8], c: Collected) -> usize {
     if c.refusal != 0 {
         return put_refusal(out, used, word, c.refusal);
     }
@@ -174,7 +162,7 @@ pub fn put_collected(out: &mut [u8; 4096], used: usize, word: &[u8], c: Collecte
     put_byte(out, at, 10)
 }
 
-pub(crate) fn collect(desk: Desk, out: &mut [u8; 4096]) -> Desk {
+pub(crate) fn collect(desk: Desk, out: &mut Out) -> Desk {
     let before = desk.state;
     let c = mail::collect(before);
     let used = put_collected(out, desk.used, b"collect", c);
@@ -184,7 +172,7 @@ pub(crate) fn collect(desk: Desk, out: &mut [u8; 4096]) -> Desk {
 }
 
 // The five counts.
-pub fn put_tally(out: &mut [u8; 4096], used: usize, tally: Tally) -> usize {
+pub fn put_tally(out: &mut Out, used: usize, tally: Tally) -> usize {
     let mut at = put(out, used, b"tally");
     at = put_next(out, at, tally.started as u64);
     at = put_next(out, at, tally.well as u64);

@@ -5,10 +5,11 @@ mod incoming;
 mod words;
 
 use commands::Command;
+use drawing::Out;
 use incoming::Incoming;
-use libc::STDIN_FILENO;
 use papers::Desk;
 use phrases::What;
+use std::io::Read;
 use text::Line;
 
 // The console; the text of a plan that comes in; the number of lines ended so far; how many bytes of the present line are kept; whether each line
@@ -47,7 +48,7 @@ fn more(n: u64) -> u64 {
 }
 
 // A line as it was read: after a prompt, where it is no comment and not blank.
-fn put_echo(out: &mut [u8; 4096], used: usize, line: &[u8]) -> usize {
+fn put_echo(out: &mut Out, used: usize, line: &[u8]) -> usize {
     let mut at = used;
     let c = commands::command_of(line);
     if let Command::Nothing = c {
@@ -59,7 +60,7 @@ fn put_echo(out: &mut [u8; 4096], used: usize, line: &[u8]) -> usize {
     drawing::put_byte(out, at, 10)
 }
 
-fn echoed(desk: Desk, echo: bool, line: &[u8], out: &mut [u8; 4096]) -> Desk {
+fn echoed(desk: Desk, echo: bool, line: &[u8], out: &mut Out) -> Desk {
     let mut d = desk;
     if echo {
         d.used = put_echo(out, desk.used, line);
@@ -68,7 +69,7 @@ fn echoed(desk: Desk, echo: bool, line: &[u8], out: &mut [u8; 4096]) -> Desk {
 }
 
 // A line of a text, comment or not; a prompt alone for the blank one that ends it.
-fn put_text_echo(out: &mut [u8; 4096], used: usize, line: &[u8]) -> usize {
+fn put_text_echo(out: &mut Out, used: usize, line: &[u8]) -> usize {
     let mut at = drawing::put_byte(out, used, 62);
     if 0 < line.len() {
         at = drawing::put_byte(out, at, 32);
@@ -77,7 +78,7 @@ fn put_text_echo(out: &mut [u8; 4096], used: usize, line: &[u8]) -> usize {
     drawing::put_byte(out, at, 10)
 }
 
-fn text_echoed(desk: Desk, echo: bool, line: &[u8], out: &mut [u8; 4096]) -> Desk {
+fn text_echoed(desk: Desk, echo: bool, line: &[u8], out: &mut Out) -> Desk {
     let mut d = desk;
     if echo {
         d.used = put_text_echo(out, desk.used, line);
@@ -114,7 +115,7 @@ fn answered(
     line: &[u8],
     bytes: &mut [u8; 8000],
     names: &mut [u8; 16896],
-    out: &mut [u8; 4096],
+    out: &mut Out,
 ) -> Session {
     let before = s.desk;
     let d = echoed(before, s.echo, line, out);
@@ -125,7 +126,7 @@ fn answered(
     turned(s, desk, incoming::none())
 }
 
-fn put_spoilt(out: &mut [u8; 4096], used: usize, incoming: Incoming) -> usize {
+fn put_spoilt(out: &mut Out, used: usize, incoming: Incoming) -> usize {
     if incoming.long {
         return drawing::put_error(
             out,
@@ -148,7 +149,7 @@ fn written_of(
     text: &[u8],
     bytes: &mut [u8; 8000],
     names: &mut [u8; 16896],
-    out: &mut [u8; 4096],
+    out: &mut Out,
 ) -> Desk {
     let used = incoming.used;
     if used <= text.len() {
@@ -164,7 +165,7 @@ fn written_in(
     text: &[u8; 131072],
     bytes: &mut [u8; 8000],
     names: &mut [u8; 16896],
-    out: &mut [u8; 4096],
+    out: &mut Out,
 ) -> Desk {
     if 0 < incoming.wrong {
         let used = put_spoilt(out, desk.used, incoming);
@@ -178,7 +179,7 @@ fn written(
     text: &[u8; 131072],
     bytes: &mut [u8; 8000],
     names: &mut [u8; 16896],
-    out: &mut [u8; 4096],
+    out: &mut Out,
 ) -> Session {
     let before = s.desk;
     let incoming = s.incoming;
@@ -193,7 +194,7 @@ fn gathered(
     text: &mut [u8; 131072],
     bytes: &mut [u8; 8000],
     names: &mut [u8; 16896],
-    out: &mut [u8; 4096],
+    out: &mut Out,
 ) -> Session {
     let before = s.desk;
     let incoming = s.incoming;
@@ -212,7 +213,7 @@ fn taken(
     text: &mut [u8; 131072],
     bytes: &mut [u8; 8000],
     names: &mut [u8; 16896],
-    out: &mut [u8; 4096],
+    out: &mut Out,
 ) -> Session {
     let incoming = s.incoming;
     if incoming.line == 0 {
@@ -222,7 +223,7 @@ fn taken(
 }
 
 // A line that is too long: in a text, the text is not read.
-fn too_long(s: Session, out: &mut [u8; 4096]) -> Session {
+fn too_long(s: Session, out: &mut Out) -> Session {
     let incoming = s.incoming;
     let desk = s.desk;
     if incoming.line == 0 {
@@ -244,7 +245,7 @@ fn ended_at(
     text: &mut [u8; 131072],
     bytes: &mut [u8; 8000],
     names: &mut [u8; 16896],
-    out: &mut [u8; 4096],
+    out: &mut Out,
 ) -> Session {
     let l = text::line_of(kept);
     match l {
@@ -304,7 +305,7 @@ fn ended_of(
     text: &mut [u8; 131072],
     bytes: &mut [u8; 8000],
     names: &mut [u8; 16896],
-    out: &mut [u8; 4096],
+    out: &mut Out,
 ) -> Session {
     let length = s.length;
     let next = counted(s);
@@ -321,7 +322,7 @@ fn ended(
     text: &mut [u8; 131072],
     bytes: &mut [u8; 8000],
     names: &mut [u8; 16896],
-    out: &mut [u8; 4096],
+    out: &mut Out,
 ) -> Session {
     if s.open {
         return ended_of(s, line, text, bytes, names, out);
@@ -336,7 +337,7 @@ fn feed(
     text: &mut [u8; 131072],
     bytes: &mut [u8; 8000],
     names: &mut [u8; 16896],
-    out: &mut [u8; 4096],
+    out: &mut Out,
 ) -> Session {
     let mut session = s;
     let mut i = 0;
@@ -358,7 +359,7 @@ fn last_ended(
     text: &mut [u8; 131072],
     bytes: &mut [u8; 8000],
     names: &mut [u8; 16896],
-    out: &mut [u8; 4096],
+    out: &mut Out,
 ) -> Session {
     if 0 < s.length {
         return ended(s, line, text, bytes, names, out);
@@ -373,7 +374,7 @@ fn closed(
     text: &mut [u8; 131072],
     bytes: &mut [u8; 8000],
     names: &mut [u8; 16896],
-    out: &mut [u8; 4096],
+    out: &mut Out,
 ) -> Session {
     let mut last = last_ended(s, line, text, bytes, names, out);
     let incoming = last.incoming;
@@ -385,7 +386,7 @@ fn closed(
 }
 
 // What is not saved at the end of the input is told, where the desk speaks to a person.
-fn warned(s: Session, out: &mut [u8; 4096]) -> Session {
+fn warned(s: Session, out: &mut Out) -> Session {
     let mut desk = s.desk;
     let incoming = s.incoming;
     if desk.spoken {
@@ -398,13 +399,13 @@ fn warned(s: Session, out: &mut [u8; 4096]) -> Session {
     s
 }
 
-fn failed(s: Session, out: &mut [u8; 4096]) -> Session {
+fn failed(s: Session, out: &mut Out) -> Session {
     let desk = s.desk;
     let number = more(s.lines);
     let used = drawing::put_error(out, desk.used, number, b"the input cannot be read");
     let mut last = turned(s, papers::failed(desk, used), incoming::none());
     last.open = false;
-    words::stopped(b"the input cannot be read\n");
+    words::stopped(drawing::runtime_of(out), b"the input cannot be read\n");
     last
 }
 
@@ -415,22 +416,23 @@ fn turn(
     text: &mut [u8; 131072],
     bytes: &mut [u8; 8000],
     names: &mut [u8; 16896],
-    out: &mut [u8; 4096],
+    out: &mut Out,
 ) -> Session {
-    let mut chunk = io::buffer();
-    let got = libc::read(STDIN_FILENO, &mut chunk);
-    if got < 0 {
-        return failed(s, out);
+    let mut chunk = [0u8; 4096];
+    let mut stdin = drawing::runtime_of(out).stdin();
+    match stdin.read(&mut chunk) {
+        Ok(n) => {
+            if n == 0 {
+                return closed(s, line, text, bytes, names, out);
+            }
+            feed(s, &chunk[..n], line, text, bytes, names, out)
+        }
+        Err(_) => failed(s, out),
     }
-    let n = io::count(got, &chunk);
-    if n == 0 {
-        return closed(s, line, text, bytes, names, out);
-    }
-    feed(s, &chunk[..n], line, text, bytes, names, out)
 }
 
 // Writes what waits.
-fn flushed(s: Session, out: &[u8; 4096]) -> Session {
+fn flushed(s: Session, out: &mut Out) -> Session {
     let mut desk = s.desk;
     let incoming = s.incoming;
     desk.used = drawing::flush(out, desk.used);
@@ -438,7 +440,7 @@ fn flushed(s: Session, out: &[u8; 4096]) -> Session {
 }
 
 // Who types is asked for the next line.
-fn asked(s: Session, out: &mut [u8; 4096]) -> Session {
+fn asked(s: Session, out: &mut Out) -> Session {
     let mut desk = s.desk;
     let incoming = s.incoming;
     if s.asking {
@@ -461,7 +463,7 @@ fn round(
     text: &mut [u8; 131072],
     bytes: &mut [u8; 8000],
     names: &mut [u8; 16896],
-    out: &mut [u8; 4096],
+    out: &mut Out,
 ) -> Session {
     let after = turn(s, line, text, bytes, names, out);
     let next = asked(after, out);
@@ -474,7 +476,7 @@ fn run(
     text: &mut [u8; 131072],
     bytes: &mut [u8; 8000],
     names: &mut [u8; 16896],
-    out: &mut [u8; 4096],
+    out: &mut Out,
 ) -> Session {
     let mut session = s;
     // nothing says that the input ends, so the turns are counted down from a number that no run uses up
@@ -490,59 +492,61 @@ fn run(
 }
 
 // Why the session ended before its input did, where it did, on standard error: so a script that runs the desk knows.
-fn told(s: Session) {
+fn told(s: Session, runtime: HostRuntime) {
     let desk = s.desk;
     if drawing::is_lost(desk.used) {
-        words::stopped(b"an answer could not be written\n");
+        words::stopped(runtime, b"an answer could not be written\n");
         return;
     }
     if s.strict {
         if desk.said == 1000 {
-            words::stopped(b"the last line is an error\n");
+            words::stopped(runtime, b"the last line is an error\n");
         }
     }
 }
 
 // The session on all of the input.
-fn served(start: Session) {
+fn served(start: Session, runtime: HostRuntime) {
     let mut line = [0u8; 16002];
     let mut text = [0u8; 131072];
     let mut bytes = [0u8; 8000];
     let mut names = [0u8; 16896];
-    let mut out = [0u8; 4096];
-    let first = flushed(asked(start, &mut out), &out);
+    let mut out = drawing::standard(runtime);
+    let first = flushed(asked(start, &mut out), &mut out);
     let last = run(
         first, &mut line, &mut text, &mut bytes, &mut names, &mut out,
     );
-    told(last);
+    told(last, runtime);
 }
 
-fn main() {
-    let w = words::given();
+fn main(rt: HostRuntime) {
+    let w = words::given(rt);
     if w.help {
-        words::put_usage();
+        words::put_usage(rt);
         return;
     }
     if w.version {
-        words::put_version();
+        words::put_version(rt);
         return;
     }
     if w.unknown {
         words::stopped(
+            rt,
             b"unknown word behind the program's name; desk --help tells those that it takes\n",
         );
         return;
     }
     let mut desk = papers::new();
     desk.spoken = !w.plain;
-    served(Session {
+    let start = Session {
         desk,
         incoming: incoming::none(),
         lines: 0,
         length: 0,
         echo: w.echo,
         strict: w.strict,
-        asking: words::is_typed(),
+        asking: words::is_typed(rt),
         open: true,
-    });
+    };
+    served(start, rt);
 }

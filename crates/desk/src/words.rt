@@ -1,5 +1,8 @@
 // The words behind the program's name, and what it says outside a session.
-use libc::{STDERR_FILENO, STDIN_FILENO, STDOUT_FILENO};
+use drawing::write_all;
+use std::env::FillError;
+use std::io::IsTerminal;
+use std::rt::Env;
 use text::same;
 
 #[derive(Clone, Copy)]
@@ -30,16 +33,18 @@ fn with(w: Words, word: &[u8]) -> Words {
     v
 }
 
-// The words up to number i, and that one.
-fn with_word(w: Words, i: usize) -> Words {
+// The words up to number i, and that one, where there is one. One that is longer than any of these is unknown.
+fn with_word(runtime: HostRuntime, w: Words, i: usize) -> Option<Words> {
     let mut word = [0u8; 16];
-    let n = os::arg(i, &mut word);
-    with(w, &word[..n])
+    match runtime.arg(i, &mut word) {
+        Ok(n) => Some(with(w, &word[..n])),
+        Err(FillError::TooLong) => Some(with(w, b"")),
+        Err(FillError::NotPresent) => None,
+    }
 }
 
 // All words behind the program's name.
-pub fn given() -> Words {
-    let many = os::arg_count();
+pub fn given(runtime: HostRuntime) -> Words {
     let mut w = Words {
         echo: false,
         plain: false,
@@ -49,42 +54,48 @@ pub fn given() -> Words {
         unknown: false,
     };
     let mut i = 1;
-    while i < many {
-        w = with_word(w, i);
+    while i < usize::MAX {
+        match with_word(runtime, w, i) {
+            Some(v) => w = v,
+            None => return w,
+        }
         i += 1;
     }
     w
 }
 
 // Whether a person types the commands and reads the answers: both are a terminal.
-pub fn is_typed() -> bool {
-    if libc::isatty(STDIN_FILENO) == 1 {
-        return libc::isatty(STDOUT_FILENO) == 1;
+pub fn is_typed(runtime: HostRuntime) -> bool {
+    if runtime.stdin().is_terminal() {
+        return runtime.stdout().is_terminal();
     }
     false
 }
 
 // Why the desk stopped, on standard error.
-pub fn stopped(why: &[u8]) {
-    io::write_all(STDERR_FILENO, b"desk: stopped: ");
-    io::write_all(STDERR_FILENO, why);
+pub fn stopped(runtime: HostRuntime, why: &[u8]) {
+    let mut stderr = runtime.stderr();
+    write_all(&mut stderr, b"desk: stopped: ");
+    write_all(&mut stderr, why);
 }
 
-pub fn put_usage() {
-    io::write_all(
-        STDOUT_FILENO,
+pub fn put_usage(runtime: HostRuntime) {
+    let mut stdout = runtime.stdout();
+    write_all(
+        &mut stdout,
         b"desk [echo] [plain] [strict]: reads commands from standard input, one a line, and answers each on standard output.\n",
     );
-    io::write_all(
-        STDOUT_FILENO,
+    write_all(
+        &mut stdout,
         b"  echo       repeat each line before its answer\n  plain      answer by numbers alone, with no brakes: for programs\n  strict     stop at the first error\n",
     );
-    io::write_all(
-        STDOUT_FILENO,
+    write_all(
+        &mut stdout,
         b"  --help     this\n  --version  the version\nThe command help lists the commands. docs/DESK.md tells all of it.\n",
     );
 }
 
-pub fn put_version() {
-    io::write_all(STDOUT_FILENO, b"moonhalyard desk 1\n");
+pub fn put_version(runtime: HostRuntime) {
+    let mut stdout = runtime.stdout();
+    write_all(&mut stdout, b"moonhalyard desk 1\n");
 }

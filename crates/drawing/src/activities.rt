@@ -1,7 +1,7 @@
 // An accepted plan in words, by its table: an activity or arm on each line.
 use super::expressions::put_expression;
 use super::naming::{put_fault_name, put_operation, put_partner, put_scope_name, put_variable};
-use super::output::{put, put_aligned, put_byte, put_next, put_number};
+use super::output::{Out, put, put_aligned, put_byte, put_next, put_number};
 use super::table::{
     depth_of, entry, is_scope, number_at, numbers_of, order_of, parent_of, scopes_before,
 };
@@ -12,7 +12,7 @@ use plan::table::{
 
 // What part of scope s an activity is, by its order there: the body, a fault part for each of its numbers, the general one, the undo part.
 fn put_scope_part(
-    out: &mut [u8; 4096],
+    out: &mut Out,
     used: usize,
     names: &[u8; 16896],
     table: &Table,
@@ -36,7 +36,7 @@ fn put_scope_part(
 
 // What part of activity m, a scope or a choose, an activity is, by its order there.
 fn put_part(
-    out: &mut [u8; 4096],
+    out: &mut Out,
     used: usize,
     names: &[u8; 16896],
     table: &Table,
@@ -56,13 +56,7 @@ fn put_part(
     used
 }
 
-fn put_role(
-    out: &mut [u8; 4096],
-    used: usize,
-    names: &[u8; 16896],
-    table: &Table,
-    n: usize,
-) -> usize {
+fn put_role(out: &mut Out, used: usize, names: &[u8; 16896], table: &Table, n: usize) -> usize {
     let parent = parent_of(table, n);
     if parent < n {
         let order = order_of(table, parent + 1, n);
@@ -84,7 +78,7 @@ pub(crate) fn is_correlation(correlation: &[u8; 16], number: u32) -> bool {
 
 // A variable of a tuple, marked where it is for correlation.
 pub fn put_member(
-    out: &mut [u8; 4096],
+    out: &mut Out,
     used: usize,
     names: &[u8; 16896],
     correlation: &[u8; 16],
@@ -99,7 +93,7 @@ pub fn put_member(
 
 // Variable i of the tuple of row n, after the one before it.
 fn put_another(
-    out: &mut [u8; 4096],
+    out: &mut Out,
     used: usize,
     names: &[u8; 16896],
     table: &Table,
@@ -118,7 +112,7 @@ fn put_another(
 
 // The tuple of row n.
 fn put_tuple(
-    out: &mut [u8; 4096],
+    out: &mut Out,
     used: usize,
     names: &[u8; 16896],
     table: &Table,
@@ -133,7 +127,7 @@ fn put_tuple(
 
 // Operation and variables of row n, after whom the message is for or from.
 fn put_about(
-    out: &mut [u8; 4096],
+    out: &mut Out,
     used: usize,
     names: &[u8; 16896],
     table: &Table,
@@ -148,7 +142,7 @@ fn put_about(
 
 // Partner, operation and variables of row n, after the words that say what is done.
 fn put_exchange(
-    out: &mut [u8; 4096],
+    out: &mut Out,
     used: usize,
     names: &[u8; 16896],
     words: &[u8],
@@ -164,7 +158,7 @@ fn put_exchange(
 
 // A send to the partner that a variable holds, and whom it asks to reply to: nothing is said of 0, which every other send carries.
 fn put_held_send(
-    out: &mut [u8; 4096],
+    out: &mut Out,
     used: usize,
     names: &[u8; 16896],
     table: &Table,
@@ -184,7 +178,7 @@ fn put_held_send(
 
 // A receive that stores whom to reply to.
 fn put_asking_receive(
-    out: &mut [u8; 4096],
+    out: &mut Out,
     used: usize,
     names: &[u8; 16896],
     table: &Table,
@@ -198,7 +192,7 @@ fn put_asking_receive(
 
 // Words, and then the expression of row n.
 fn put_with_expression(
-    out: &mut [u8; 4096],
+    out: &mut Out,
     used: usize,
     names: &[u8; 16896],
     words: &[u8],
@@ -217,13 +211,7 @@ fn put_with_expression(
     )
 }
 
-fn put_set(
-    out: &mut [u8; 4096],
-    used: usize,
-    names: &[u8; 16896],
-    table: &Table,
-    n: usize,
-) -> usize {
+fn put_set(out: &mut Out, used: usize, names: &[u8; 16896], table: &Table, n: usize) -> usize {
     let mut at = put(out, used, b"set ");
     at = put_variable(out, at, names, entry(table, n, VARIABLE));
     put_with_expression(out, at, names, b" to ", table, n)
@@ -231,7 +219,7 @@ fn put_set(
 
 // Scope n, with the name that it may have.
 fn put_named_scope(
-    out: &mut [u8; 4096],
+    out: &mut Out,
     used: usize,
     names: &[u8; 16896],
     table: &Table,
@@ -243,7 +231,7 @@ fn put_named_scope(
 
 // Scope n by its number, and by the name that it may have: `scope 6 (stock)`.
 pub fn put_scope(
-    out: &mut [u8; 4096],
+    out: &mut Out,
     used: usize,
     names: &[u8; 16896],
     table: &Table,
@@ -255,20 +243,14 @@ pub fn put_scope(
 }
 
 // A raise with its number, or the name of that.
-fn put_raise(
-    out: &mut [u8; 4096],
-    used: usize,
-    names: &[u8; 16896],
-    table: &Table,
-    n: usize,
-) -> usize {
+fn put_raise(out: &mut Out, used: usize, names: &[u8; 16896], table: &Table, n: usize) -> usize {
     let at = put(out, used, b"raise ");
     put_fault_name(out, at, names, b"", entry(table, n, NUMBER))
 }
 
 // Activity or arm n in words.
 pub fn put_activity(
-    out: &mut [u8; 4096],
+    out: &mut Out,
     used: usize,
     names: &[u8; 16896],
     table: &Table,
@@ -308,12 +290,12 @@ pub fn put_activity(
 }
 
 // What the table of no accepted plan has.
-fn put_unknown(out: &mut [u8; 4096], used: usize, kind: u32) -> usize {
+fn put_unknown(out: &mut Out, used: usize, kind: u32) -> usize {
     let at = put(out, used, b"unknown kind ");
     put_number(out, at, kind as u64)
 }
 
-fn put_indent(out: &mut [u8; 4096], used: usize, depth: usize) -> usize {
+fn put_indent(out: &mut Out, used: usize, depth: usize) -> usize {
     let mut at = used;
     let mut i = 0;
     while i < depth {
@@ -326,7 +308,7 @@ fn put_indent(out: &mut [u8; 4096], used: usize, depth: usize) -> usize {
 
 // What part activity n is, and what it is.
 pub fn put_labelled(
-    out: &mut [u8; 4096],
+    out: &mut Out,
     used: usize,
     names: &[u8; 16896],
     table: &Table,
@@ -339,7 +321,7 @@ pub fn put_labelled(
 
 // Where activity n stands in the drawing, what part it is, and what it is.
 pub fn put_drawn(
-    out: &mut [u8; 4096],
+    out: &mut Out,
     used: usize,
     names: &[u8; 16896],
     table: &Table,
@@ -352,7 +334,7 @@ pub fn put_drawn(
 }
 
 fn put_line(
-    out: &mut [u8; 4096],
+    out: &mut Out,
     used: usize,
     names: &[u8; 16896],
     table: &Table,
@@ -366,7 +348,7 @@ fn put_line(
 
 // All activities and arms, and a blank line.
 pub fn put_drawing(
-    out: &mut [u8; 4096],
+    out: &mut Out,
     used: usize,
     names: &[u8; 16896],
     table: &Table,

@@ -1,10 +1,10 @@
 // An expression in words, by its nodes: each operation in the form that the crate forms has for it.
 use super::naming::put_variable;
-use super::output::{put, put_byte, put_number};
+use super::output::{Out, put, put_byte, put_number};
 use super::table::{code_of, value_of};
 use plan::table::Table;
 
-fn put_operator(out: &mut [u8; 4096], used: usize, form: u32) -> usize {
+fn put_operator(out: &mut Out, used: usize, form: u32) -> usize {
     match form {
         2 => put(out, used, b" + "),
         3 => put(out, used, b" - "),
@@ -20,13 +20,7 @@ fn put_operator(out: &mut [u8; 4096], used: usize, form: u32) -> usize {
 }
 
 // A constant or a variable. (No node of an accepted plan is anything else where no level is left.)
-fn put_leaf(
-    out: &mut [u8; 4096],
-    used: usize,
-    names: &[u8; 16896],
-    table: &Table,
-    m: usize,
-) -> usize {
+fn put_leaf(out: &mut Out, used: usize, names: &[u8; 16896], table: &Table, m: usize) -> usize {
     let value = value_of(table, m);
     if code_of(table, m) == 0 {
         return put_number(out, used, value as u64);
@@ -35,7 +29,7 @@ fn put_leaf(
 }
 
 // A byte, where it is wanted.
-fn put_if(out: &mut [u8; 4096], used: usize, wanted: bool, b: u8) -> usize {
+fn put_if(out: &mut Out, used: usize, wanted: bool, b: u8) -> usize {
     if wanted {
         return put_byte(out, used, b);
     }
@@ -44,7 +38,7 @@ fn put_if(out: &mut [u8; 4096], used: usize, wanted: bool, b: u8) -> usize {
 
 // The expression whose first node is m, where `depth` levels are left below it; an operation that is an operand stands in parentheses.
 pub(crate) fn put_expression(
-    out: &mut [u8; 4096],
+    out: &mut Out,
     used: usize,
     names: &[u8; 16896],
     table: &Table,

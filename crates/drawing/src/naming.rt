@@ -2,7 +2,7 @@
 // places of 33 bytes, the length of a name and its characters. A table of zeros has no names. And the lines that declare them, as a text has them in
 // front.
 use super::activities::is_correlation;
-use super::output::{put, put_byte, put_next, put_number};
+use super::output::{Out, put, put_byte, put_next, put_number};
 use names::length_at;
 
 fn byte_in(names: &[u8; 16896], place: usize, i: usize) -> u8 {
@@ -15,7 +15,7 @@ fn byte_in(names: &[u8; 16896], place: usize, i: usize) -> u8 {
 }
 
 // The name at a place.
-fn put_name(out: &mut [u8; 4096], used: usize, names: &[u8; 16896], place: usize) -> usize {
+fn put_name(out: &mut Out, used: usize, names: &[u8; 16896], place: usize) -> usize {
     let length = length_at(names, place);
     let mut at = used;
     let mut i = 0;
@@ -39,7 +39,7 @@ fn place_of(first: usize, many: u32, number: u32) -> usize {
 }
 
 // A variable by its name, or as v0, v1, ..
-pub fn put_variable(out: &mut [u8; 4096], used: usize, names: &[u8; 16896], number: u32) -> usize {
+pub fn put_variable(out: &mut Out, used: usize, names: &[u8; 16896], number: u32) -> usize {
     let place = place_of(0, 16, number);
     if 0 < length_at(names, place) {
         return put_name(out, used, names, place);
@@ -50,7 +50,7 @@ pub fn put_variable(out: &mut [u8; 4096], used: usize, names: &[u8; 16896], numb
 
 // What has the places from `first` on, by its name or its number.
 fn put_numbered(
-    out: &mut [u8; 4096],
+    out: &mut Out,
     used: usize,
     names: &[u8; 16896],
     first: usize,
@@ -63,17 +63,17 @@ fn put_numbered(
     put_number(out, used, number as u64)
 }
 
-pub fn put_partner(out: &mut [u8; 4096], used: usize, names: &[u8; 16896], number: u32) -> usize {
+pub fn put_partner(out: &mut Out, used: usize, names: &[u8; 16896], number: u32) -> usize {
     put_numbered(out, used, names, 16, number)
 }
 
-pub fn put_operation(out: &mut [u8; 4096], used: usize, names: &[u8; 16896], number: u32) -> usize {
+pub fn put_operation(out: &mut Out, used: usize, names: &[u8; 16896], number: u32) -> usize {
     put_numbered(out, used, names, 80, number)
 }
 
 // The name of scope k of the plan, where it has one, with what stands before and behind it.
 pub(crate) fn put_scope_name(
-    out: &mut [u8; 4096],
+    out: &mut Out,
     used: usize,
     names: &[u8; 16896],
     k: usize,
@@ -109,7 +109,7 @@ fn fault_place(number: u32) -> usize {
 
 // A fault by its name, or by its number behind what stands before that.
 pub fn put_fault_name(
-    out: &mut [u8; 4096],
+    out: &mut Out,
     used: usize,
     names: &[u8; 16896],
     before: &[u8],
@@ -125,7 +125,7 @@ pub fn put_fault_name(
 
 // The line that declares a variable.
 fn put_declared(
-    out: &mut [u8; 4096],
+    out: &mut Out,
     used: usize,
     names: &[u8; 16896],
     correlation: &[u8; 16],
@@ -140,7 +140,7 @@ fn put_declared(
 }
 
 fn put_variables(
-    out: &mut [u8; 4096],
+    out: &mut Out,
     used: usize,
     names: &[u8; 16896],
     correlation: &[u8; 16],
@@ -157,7 +157,7 @@ fn put_variables(
 
 // The line that declares a partner, an operation or a fault, where it has a name.
 fn put_named(
-    out: &mut [u8; 4096],
+    out: &mut Out,
     used: usize,
     names: &[u8; 16896],
     word: &[u8],
@@ -175,7 +175,7 @@ fn put_named(
 }
 
 fn put_all_named(
-    out: &mut [u8; 4096],
+    out: &mut Out,
     used: usize,
     names: &[u8; 16896],
     word: &[u8],
@@ -190,7 +190,7 @@ fn put_all_named(
     at
 }
 
-fn put_all_faults(out: &mut [u8; 4096], used: usize, names: &[u8; 16896], word: &[u8]) -> usize {
+fn put_all_faults(out: &mut Out, used: usize, names: &[u8; 16896], word: &[u8]) -> usize {
     let mut at = used;
     let mut k = 16;
     while k < 256 {
@@ -202,7 +202,7 @@ fn put_all_faults(out: &mut [u8; 4096], used: usize, names: &[u8; 16896], word: 
 
 // The lines that declare a plan's variables, and the partners, operations and faults that have names.
 pub fn put_names(
-    out: &mut [u8; 4096],
+    out: &mut Out,
     used: usize,
     names: &[u8; 16896],
     correlation: &[u8; 16],

@@ -3,8 +3,9 @@
 // A line is written for each example, and at the end how many there were.
 #![tactic(auto)]
 
-use libc::STDIN_FILENO;
+use drawing::Out;
 use papers::Desk;
+use std::io::Read;
 use text::Line;
 
 // The console; the number of lines ended so far; how many bytes of the present line are kept; the examples begun, and those that agreed, the
@@ -94,8 +95,8 @@ fn next(n: usize) -> usize {
     n
 }
 
-fn agrees_in(out: &[u8; 4096], used: usize, line: &[u8], mark: usize) -> bool {
-    agrees(out, used, line, mark)
+fn agrees_in(out: &Out, used: usize, line: &[u8], mark: usize) -> bool {
+    agrees(drawing::waiting(out), used, line, mark)
 }
 
 // The line at which an example was first answered otherwise, after one more line.
@@ -110,8 +111,14 @@ fn found(differs: u64, same: bool, number: u64) -> u64 {
 }
 
 // A command with its answer.
-fn tried(s: Session, line: &[u8], number: u64, bytes: &mut [u8; 8000]) -> Session {
-    let mut out = [0u8; 4096];
+fn tried(
+    s: Session,
+    line: &[u8],
+    number: u64,
+    bytes: &mut [u8; 8000],
+    runtime: HostRuntime,
+) -> Session {
+    let mut out = drawing::standard(runtime);
     // no example is written as text, so that there are no names
     let mut names = [0u8; 16896];
     let mark = mark_of(line);
@@ -139,7 +146,7 @@ fn tried(s: Session, line: &[u8], number: u64, bytes: &mut [u8; 8000]) -> Sessio
 }
 
 // What became of the present example.
-fn put_verdict(report: &mut [u8; 4096], used: usize, examples: u64, differs: u64) -> usize {
+fn put_verdict(report: &mut Out, used: usize, examples: u64, differs: u64) -> usize {
     if examples == 0 {
         return used;
     }
@@ -162,7 +169,7 @@ fn agreed_with(s: Session) -> u64 {
 }
 
 // A heading: the example before it is over.
-fn headed(s: Session, line: &[u8], report: &mut [u8; 4096]) -> Session {
+fn headed(s: Session, line: &[u8], report: &mut Out) -> Session {
     let agreed = agreed_with(s);
     let mut used = put_verdict(report, s.used, s.examples, s.differs);
     used = drawing::put(report, used, part(line, 10, line.len()));
@@ -185,7 +192,7 @@ fn answered(
     line: &[u8],
     number: u64,
     bytes: &mut [u8; 8000],
-    report: &mut [u8; 4096],
+    report: &mut Out,
 ) -> Session {
     if begins(line, b"# example ") {
         return headed(s, line, report);
@@ -196,7 +203,7 @@ fn answered(
     if line.len() == 0 {
         return s;
     }
-    tried(s, line, number, bytes)
+    tried(s, line, number, bytes, drawing::runtime_of(report))
 }
 
 // A line that is too long is answered otherwise than anything beside it.
@@ -211,7 +218,7 @@ fn ended_at(
     kept: &[u8],
     number: u64,
     bytes: &mut [u8; 8000],
-    report: &mut [u8; 4096],
+    report: &mut Out,
 ) -> Session {
     let l = text::line_of(kept);
     match l {
@@ -220,7 +227,7 @@ fn ended_at(
     }
 }
 
-fn ended_of(s: Session, line: &[u8], bytes: &mut [u8; 8000], report: &mut [u8; 4096]) -> Session {
+fn ended_of(s: Session, line: &[u8], bytes: &mut [u8; 8000], report: &mut Out) -> Session {
     let number = more(s.lines);
     let mut t = ended_at(s, part(line, 0, s.length), number, bytes, report);
     t.lines = number;
@@ -228,12 +235,7 @@ fn ended_of(s: Session, line: &[u8], bytes: &mut [u8; 8000], report: &mut [u8; 4
     t
 }
 
-fn ended(
-    s: Session,
-    line: &[u8; 16002],
-    bytes: &mut [u8; 8000],
-    report: &mut [u8; 4096],
-) -> Session {
+fn ended(s: Session, line: &[u8; 16002], bytes: &mut [u8; 8000], report: &mut Out) -> Session {
     ended_of(s, line, bytes, report)
 }
 
@@ -242,7 +244,7 @@ fn feed(
     chunk: &[u8],
     line: &mut [u8; 16002],
     bytes: &mut [u8; 8000],
-    report: &mut [u8; 4096],
+    report: &mut Out,
 ) -> Session {
     let mut session = s;
     let mut i = 0;
@@ -258,15 +260,10 @@ fn feed(
 }
 
 // Reads once.
-fn turn(
-    s: Session,
-    line: &mut [u8; 16002],
-    bytes: &mut [u8; 8000],
-    report: &mut [u8; 4096],
-) -> Session {
-    let mut chunk = io::buffer();
-    let got = libc::read(STDIN_FILENO, &mut chunk);
-    let n = io::count(got, &chunk);
+fn turn(s: Session, line: &mut [u8; 16002], bytes: &mut [u8; 8000], report: &mut Out) -> Session {
+    let mut chunk = [0u8; 4096];
+    let mut stdin = drawing::runtime_of(report).stdin();
+    let n = stdin.read(&mut chunk).unwrap_or(0);
     if n == 0 {
         let mut last = s;
         last.open = false;
@@ -275,12 +272,7 @@ fn turn(
     feed(s, &chunk[..n], line, bytes, report)
 }
 
-fn run(
-    s: Session,
-    line: &mut [u8; 16002],
-    bytes: &mut [u8; 8000],
-    report: &mut [u8; 4096],
-) -> Session {
+fn run(s: Session, line: &mut [u8; 16002], bytes: &mut [u8; 8000], report: &mut Out) -> Session {
     let mut session = s;
     // nothing says that the input ends, so the turns are counted down from a number that no run uses up
     let mut turns = u64::MAX;
@@ -295,7 +287,7 @@ fn run(
 }
 
 // How many examples there were, and how many agreed.
-fn put_count(s: Session, report: &mut [u8; 4096]) -> usize {
+fn put_count(s: Session, report: &mut Out) -> usize {
     let mut used = put_verdict(report, s.used, s.examples, s.differs);
     used = drawing::put_number(report, used, s.examples);
     used = drawing::put(report, used, b" examples, ");
@@ -303,10 +295,10 @@ fn put_count(s: Session, report: &mut [u8; 4096]) -> usize {
     drawing::put(report, used, b" as expected\n")
 }
 
-fn main() {
+fn main(rt: HostRuntime) {
     let mut line = [0u8; 16002];
     let mut bytes = [0u8; 8000];
-    let mut report = [0u8; 4096];
+    let mut report = drawing::standard(rt);
     let desk = papers::new();
     let start = Session {
         desk,
@@ -320,5 +312,5 @@ fn main() {
     };
     let last = run(start, &mut line, &mut bytes, &mut report);
     let used = put_count(last, &mut report);
-    drawing::flush(&report, used);
+    drawing::flush(&mut report, used);
 }

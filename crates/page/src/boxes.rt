@@ -1,12 +1,12 @@
 // An order on the drawing of its plan, as boxes within boxes: what runs is marked, and so is what would be undone.
 use super::sizes;
-use drawing::{measure, put, put_labelled, put_markup, put_number};
+use drawing::{Out, measure, put, put_labelled, put_markup, put_number};
 use order::Order;
 use plan::table::Table;
 use wording::doing;
 
 // How a box is marked, by what its activity does.
-fn put_class(out: &mut [u8; 4096], used: usize, doing: usize) -> usize {
+fn put_class(out: &mut Out, used: usize, doing: usize) -> usize {
     match doing {
         doing::IDLE => put_markup(out, used, b"idle"),
         doing::DONE => put_markup(out, used, b"done"),
@@ -64,7 +64,7 @@ fn times_of(order: Order, n: usize) -> u64 {
 }
 
 // When the closings of scope n would be undone.
-fn put_turn(out: &mut [u8; 4096], used: usize, order: Order, n: usize) -> usize {
+fn put_turn(out: &mut Out, used: usize, order: Order, n: usize) -> usize {
     let turn = turn_of(order, n);
     if turn == 0 {
         return used;
@@ -81,14 +81,14 @@ fn put_turn(out: &mut [u8; 4096], used: usize, order: Order, n: usize) -> usize 
 }
 
 // What activity n does, and when it would be undone.
-fn put_state(out: &mut [u8; 4096], used: usize, doing: usize, order: Order, n: usize) -> usize {
+fn put_state(out: &mut Out, used: usize, doing: usize, order: Order, n: usize) -> usize {
     let at = doing::put_doing(out, used, false, doing);
     put_turn(out, at, order, n)
 }
 
 // What stands in the box of row n: its number, and what it is.
 fn put_label(
-    out: &mut [u8; 4096],
+    out: &mut Out,
     used: usize,
     names: &[u8; 16896],
     table: &Table,
@@ -100,19 +100,13 @@ fn put_label(
     put_labelled(out, at, names, table, flags, n)
 }
 
-fn put_attribute(out: &mut [u8; 4096], used: usize, front: &[u8], value: usize) -> usize {
+fn put_attribute(out: &mut Out, used: usize, front: &[u8], value: usize) -> usize {
     let mut at = put_markup(out, used, front);
     at = put_number(out, at, value as u64);
     put_markup(out, at, b"\"")
 }
 
-fn put_rectangle(
-    out: &mut [u8; 4096],
-    used: usize,
-    table: &Table,
-    n: usize,
-    whole: usize,
-) -> usize {
+fn put_rectangle(out: &mut Out, used: usize, table: &Table, n: usize, whole: usize) -> usize {
     let mut at = put_attribute(out, used, b"<rect x=\"", sizes::left_of(table, n));
     at = put_attribute(out, at, b" y=\"", sizes::top_of(table, n));
     at = put_attribute(out, at, b" width=\"", sizes::width_of(table, n, whole));
@@ -139,7 +133,7 @@ fn end_of_state(table: &Table, n: usize, whole: usize) -> usize {
 
 // The box of row n.
 fn put_box(
-    out: &mut [u8; 4096],
+    out: &mut Out,
     used: usize,
     names: &[u8; 16896],
     table: &Table,
@@ -172,13 +166,14 @@ fn put_box(
 
 // How wide a drawing must be for row n.
 fn width_for(
+    like: &Out,
     names: &[u8; 16896],
     table: &Table,
     flags: &[u8; 16],
     order: Order,
     n: usize,
 ) -> usize {
-    let mut out = measure();
+    let mut out = measure(like);
     let label = put_label(&mut out, 0, names, table, flags, n);
     let state = put_state(&mut out, 0, doing::doing_of(table, order, n), order, n);
     sizes::width_for(table, n, plus(label, state))
@@ -192,6 +187,7 @@ fn wider(x: usize, y: usize) -> usize {
 }
 
 fn width_of(
+    like: &Out,
     names: &[u8; 16896],
     table: &Table,
     flags: &[u8; 16],
@@ -201,14 +197,14 @@ fn width_of(
     let mut width = 300;
     let mut n = 0;
     while n < activities {
-        width = wider(width, width_for(names, table, flags, order, n));
+        width = wider(width, width_for(like, names, table, flags, order, n));
         n += 1;
     }
     width
 }
 
 // A drawing of this size.
-fn put_opening(out: &mut [u8; 4096], used: usize, width: usize, height: usize) -> usize {
+fn put_opening(out: &mut Out, used: usize, width: usize, height: usize) -> usize {
     let mut at = put_markup(
         out,
         used,
@@ -224,7 +220,7 @@ fn put_opening(out: &mut [u8; 4096], used: usize, width: usize, height: usize) -
 }
 
 fn put_rows(
-    out: &mut [u8; 4096],
+    out: &mut Out,
     used: usize,
     names: &[u8; 16896],
     table: &Table,
@@ -244,7 +240,7 @@ fn put_rows(
 
 // All boxes.
 pub(crate) fn put_boxes(
-    out: &mut [u8; 4096],
+    out: &mut Out,
     used: usize,
     names: &[u8; 16896],
     table: &Table,
@@ -252,7 +248,7 @@ pub(crate) fn put_boxes(
     activities: usize,
     order: Order,
 ) -> usize {
-    let whole = width_of(names, table, flags, activities, order);
+    let whole = width_of(out, names, table, flags, activities, order);
     let mut at = put_opening(out, used, whole, sizes::whole_height(activities));
     at = put_rows(out, at, names, table, flags, activities, order, whole);
     put_markup(out, at, b"</svg>")

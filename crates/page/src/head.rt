@@ -1,9 +1,9 @@
 // The front of the page: its title, how it looks, and the counts.
-use drawing::{put, put_markup, put_number};
+use drawing::{Out, put, put_markup, put_number};
 use machine::{State, Tally};
 
 // What stands before the title.
-fn put_front(out: &mut [u8; 4096], used: usize) -> usize {
+fn put_front(out: &mut Out, used: usize) -> usize {
     let at = put_markup(
         out,
         used,
@@ -17,7 +17,7 @@ fn put_front(out: &mut [u8; 4096], used: usize) -> usize {
 }
 
 // How the page looks: its text and tables.
-fn put_text_style(out: &mut [u8; 4096], used: usize) -> usize {
+fn put_text_style(out: &mut Out, used: usize) -> usize {
     let mut at = put_markup(
         out,
         used,
@@ -37,7 +37,7 @@ fn put_text_style(out: &mut [u8; 4096], used: usize) -> usize {
 }
 
 // How the boxes look. What is told by a colour is told by words in the box too.
-fn put_box_style(out: &mut [u8; 4096], used: usize) -> usize {
+fn put_box_style(out: &mut Out, used: usize) -> usize {
     let mut at = put_markup(
         out,
         used,
@@ -56,7 +56,7 @@ fn put_box_style(out: &mut [u8; 4096], used: usize) -> usize {
 }
 
 // A count, and of what.
-fn put_count(out: &mut [u8; 4096], used: usize, count: u64, of: &[u8]) -> usize {
+fn put_count(out: &mut Out, used: usize, count: u64, of: &[u8]) -> usize {
     let mut at = put_markup(out, used, b"<li><b>");
     at = put_number(out, at, count);
     at = put_markup(out, at, b"</b>");
@@ -64,7 +64,7 @@ fn put_count(out: &mut [u8; 4096], used: usize, count: u64, of: &[u8]) -> usize 
     put_markup(out, at, b"</li>\n")
 }
 
-fn put_counts(out: &mut [u8; 4096], used: usize, live: u64, waiting: usize, tally: Tally) -> usize {
+fn put_counts(out: &mut Out, used: usize, live: u64, waiting: usize, tally: Tally) -> usize {
     let mut at = put_markup(out, used, b"<ul class=\"counts\">\n");
     at = put_count(out, at, live, b" of 16 orders live");
     at = put_count(out, at, waiting as u64, b" of 64 messages waiting");
@@ -77,7 +77,7 @@ fn put_counts(out: &mut [u8; 4096], used: usize, live: u64, waiting: usize, tall
 }
 
 // The title: what stands in the window's name.
-fn put_title(out: &mut [u8; 4096], used: usize, live: u64, waiting: usize) -> usize {
+fn put_title(out: &mut Out, used: usize, live: u64, waiting: usize) -> usize {
     let mut at = put(out, used, b"Desk: ");
     at = put_number(out, at, live);
     at = put(out, at, b" orders live, ");
@@ -85,7 +85,7 @@ fn put_title(out: &mut [u8; 4096], used: usize, live: u64, waiting: usize) -> us
     put(out, at, b" messages waiting")
 }
 
-pub(crate) fn put_head(out: &mut [u8; 4096], used: usize, state: State, tally: Tally) -> usize {
+pub(crate) fn put_head(out: &mut Out, used: usize, state: State, tally: Tally) -> usize {
     let orders = state.orders;
     let live = wording::live_of(orders);
     let mut at = put_front(out, used);

@@ -10,7 +10,7 @@ mod orders;
 mod sizes;
 
 use boxes::put_boxes;
-use drawing::{put, put_drawing, put_markup, put_names};
+use drawing::{Out, put, put_drawing, put_markup, put_names};
 use machine::{State, Tally};
 use plan::Answer;
 use plan::table::{LENGTH, Table};
@@ -25,7 +25,7 @@ pub fn is_front(bytes: &[u8]) -> bool {
 
 // What is held, in a red band; nothing where nothing is.
 fn put_held(
-    out: &mut [u8; 4096],
+    out: &mut Out,
     used: usize,
     names: &[u8; 16896],
     table: &Table,
@@ -50,7 +50,7 @@ fn put_held(
 
 // The plan as it is drawn, while no order stands on it.
 fn put_idle_plan(
-    out: &mut [u8; 4096],
+    out: &mut Out,
     used: usize,
     names: &[u8; 16896],
     table: &Table,
@@ -70,7 +70,7 @@ fn put_idle_plan(
 
 // The plan as text, as the desk draws it.
 fn put_plan(
-    out: &mut [u8; 4096],
+    out: &mut Out,
     used: usize,
     names: &[u8; 16896],
     table: &Table,
@@ -92,7 +92,7 @@ fn put_plan(
 }
 
 fn put_planned(
-    out: &mut [u8; 4096],
+    out: &mut Out,
     used: usize,
     names: &[u8; 16896],
     table: &Table,
@@ -109,14 +109,14 @@ fn put_planned(
     put_plan(out, at, names, table, flags, variables, activities, state)
 }
 
-fn put_planless(out: &mut [u8; 4096], used: usize) -> usize {
+fn put_planless(out: &mut Out, used: usize) -> usize {
     let mut at = put_markup(out, used, b"<section id=\"plan\">\n<h2>The plan</h2>\n<p>");
     at = put(out, at, b"There is no plan: no order can start.");
     put_markup(out, at, b"</p>\n</section>\n")
 }
 
 // What a state holds.
-fn put_state(out: &mut [u8; 4096], used: usize, names: &[u8; 16896], state: State) -> usize {
+fn put_state(out: &mut Out, used: usize, names: &[u8; 16896], state: State) -> usize {
     let mut table = [0u32; LENGTH];
     let mut flags = [0u8; 16];
     let a = machine::limits::planned(state, &mut table, &mut flags);
@@ -137,7 +137,7 @@ fn put_state(out: &mut [u8; 4096], used: usize, names: &[u8; 16896], state: Stat
 
 // The whole page.
 pub fn put_page(
-    out: &mut [u8; 4096],
+    out: &mut Out,
     used: usize,
     names: &[u8; 16896],
     state: State,

@@ -1,12 +1,12 @@
 // The messages that wait, and what becomes of each.
-use drawing::{put, put_markup, put_number};
+use drawing::{Out, put, put_markup, put_number};
 use machine::{Message, State};
 use plan::table::Table;
 use telling::put_letter;
 use why::strays;
 
 // What becomes of a message, in words. What nobody takes, or room is wanted for, is marked.
-fn put_fate(out: &mut [u8; 4096], used: usize, fate: u32) -> usize {
+fn put_fate(out: &mut Out, used: usize, fate: u32) -> usize {
     match fate {
         strays::LEAVES => put(out, used, b"leaves by collect"),
         strays::UNTAKEN => put_marked(out, used, b"no receive of the plan takes it"),
@@ -21,7 +21,7 @@ fn put_fate(out: &mut [u8; 4096], used: usize, fate: u32) -> usize {
     }
 }
 
-fn put_marked(out: &mut [u8; 4096], used: usize, words: &[u8]) -> usize {
+fn put_marked(out: &mut Out, used: usize, words: &[u8]) -> usize {
     let mut at = put_markup(out, used, b"<span class=\"bad\">");
     at = put(out, at, words);
     put_markup(out, at, b"</span>")
@@ -29,7 +29,7 @@ fn put_marked(out: &mut [u8; 4096], used: usize, words: &[u8]) -> usize {
 
 // The message at a place.
 fn put_one(
-    out: &mut [u8; 4096],
+    out: &mut Out,
     used: usize,
     names: &[u8; 16896],
     table: &Table,
@@ -48,7 +48,7 @@ fn put_one(
 }
 
 fn put_lines(
-    out: &mut [u8; 4096],
+    out: &mut Out,
     used: usize,
     names: &[u8; 16896],
     table: &Table,
@@ -76,7 +76,7 @@ fn put_lines(
 
 // All of them, where one waits.
 fn put_table(
-    out: &mut [u8; 4096],
+    out: &mut Out,
     used: usize,
     names: &[u8; 16896],
     table: &Table,
@@ -98,7 +98,7 @@ fn put_table(
 }
 
 pub(crate) fn put_messages(
-    out: &mut [u8; 4096],
+    out: &mut Out,
     used: usize,
     names: &[u8; 16896],
     table: &Table,

@@ -1,6 +1,6 @@
 // The live orders: a list of what each waits for, and each on the drawing of its plan.
 use super::boxes::put_boxes;
-use drawing::{put, put_markup, put_number};
+use drawing::{Out, put, put_markup, put_number};
 use machine::State;
 use order::Order;
 use plan::table::Table;
@@ -9,7 +9,7 @@ use wording::put_standing;
 
 // A line of the list.
 fn put_line(
-    out: &mut [u8; 4096],
+    out: &mut Out,
     used: usize,
     names: &[u8; 16896],
     table: &Table,
@@ -34,7 +34,7 @@ fn put_line(
 }
 
 fn put_lines(
-    out: &mut [u8; 4096],
+    out: &mut Out,
     used: usize,
     names: &[u8; 16896],
     table: &Table,
@@ -60,7 +60,7 @@ fn put_lines(
 
 // The list, where an order is live.
 fn put_table(
-    out: &mut [u8; 4096],
+    out: &mut Out,
     used: usize,
     names: &[u8; 16896],
     table: &Table,
@@ -83,7 +83,7 @@ fn put_table(
 }
 
 pub(crate) fn put_list(
-    out: &mut [u8; 4096],
+    out: &mut Out,
     used: usize,
     names: &[u8; 16896],
     table: &Table,
@@ -99,7 +99,7 @@ pub(crate) fn put_list(
 
 // The closing in this place, counted from the latest, which is 1.
 fn put_closing(
-    out: &mut [u8; 4096],
+    out: &mut Out,
     used: usize,
     names: &[u8; 16896],
     table: &Table,
@@ -116,7 +116,7 @@ fn put_closing(
 }
 
 fn put_closings(
-    out: &mut [u8; 4096],
+    out: &mut Out,
     used: usize,
     names: &[u8; 16896],
     table: &Table,
@@ -133,7 +133,7 @@ fn put_closings(
 }
 
 // What the list is called, by the mark of the root: where that has faulted, what closed for it is undone.
-fn put_title(out: &mut [u8; 4096], used: usize, root: u8) -> usize {
+fn put_title(out: &mut Out, used: usize, root: u8) -> usize {
     if 1 < root {
         return put(out, used, b"Still to be undone, in this order");
     }
@@ -141,7 +141,7 @@ fn put_title(out: &mut [u8; 4096], used: usize, root: u8) -> usize {
 }
 
 // Nothing is remembered.
-fn put_nothing(out: &mut [u8; 4096], used: usize, root: u8) -> usize {
+fn put_nothing(out: &mut Out, used: usize, root: u8) -> usize {
     if 1 < root {
         return put_markup(out, used, b"<p>Nothing more is to be undone.</p>\n");
     }
@@ -150,7 +150,7 @@ fn put_nothing(out: &mut [u8; 4096], used: usize, root: u8) -> usize {
 
 // What would be undone, the latest first, as the numbers in the boxes count it.
 fn put_undo(
-    out: &mut [u8; 4096],
+    out: &mut Out,
     used: usize,
     names: &[u8; 16896],
     table: &Table,
@@ -169,7 +169,7 @@ fn put_undo(
 
 // One order.
 fn put_order(
-    out: &mut [u8; 4096],
+    out: &mut Out,
     used: usize,
     names: &[u8; 16896],
     table: &Table,
@@ -195,7 +195,7 @@ fn put_order(
 }
 
 pub(crate) fn put_orders(
-    out: &mut [u8; 4096],
+    out: &mut Out,
     used: usize,
     names: &[u8; 16896],
     table: &Table,

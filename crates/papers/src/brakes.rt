@@ -1,6 +1,6 @@
 // Brakes: where orders are live or messages wait, a desk that speaks to a person does not drop them unless it is told to.
 use super::{Desk, failed};
-use drawing::{put, put_byte, put_next, put_number};
+use drawing::{Out, put, put_byte, put_next, put_number};
 use order::Order;
 
 fn with_live(live: usize, root: u8) -> usize {
@@ -46,7 +46,7 @@ pub fn is_braked(desk: Desk) -> bool {
     false
 }
 
-fn put_many(out: &mut [u8; 4096], used: usize, many: usize, one: &[u8], more: &[u8]) -> usize {
+fn put_many(out: &mut Out, used: usize, many: usize, one: &[u8], more: &[u8]) -> usize {
     let at = put_number(out, used, many as u64);
     if many == 1 {
         return put(out, at, one);
@@ -54,16 +54,16 @@ fn put_many(out: &mut [u8; 4096], used: usize, many: usize, one: &[u8], more: &[
     put(out, at, more)
 }
 
-fn put_live(out: &mut [u8; 4096], used: usize, live: usize) -> usize {
+fn put_live(out: &mut Out, used: usize, live: usize) -> usize {
     put_many(out, used, live, b" order is live", b" orders are live")
 }
 
-fn put_waiting(out: &mut [u8; 4096], used: usize, waiting: usize) -> usize {
+fn put_waiting(out: &mut Out, used: usize, waiting: usize) -> usize {
     put_many(out, used, waiting, b" message waits", b" messages wait")
 }
 
 // What there is to lose, in words.
-pub fn put_lost(out: &mut [u8; 4096], used: usize, live: usize, waiting: usize) -> usize {
+pub fn put_lost(out: &mut Out, used: usize, live: usize, waiting: usize) -> usize {
     if live == 0 {
         return put_waiting(out, used, waiting);
     }
@@ -76,7 +76,7 @@ pub fn put_lost(out: &mut [u8; 4096], used: usize, live: usize, waiting: usize) 
 }
 
 // The answer of a desk that has brakes: what would be lost, and how to say that it may be.
-pub fn braked(desk: Desk, number: u64, word: &[u8], out: &mut [u8; 4096]) -> Desk {
+pub fn braked(desk: Desk, number: u64, word: &[u8], out: &mut Out) -> Desk {
     let state = desk.state;
     let orders = state.orders;
     let mut at = put(out, desk.used, b"error");

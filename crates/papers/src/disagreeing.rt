@@ -1,6 +1,6 @@
 // Which earlier line a receive or an arm disagrees with, where a text earns 21: document 02, request 8.
 use super::writing::line_after;
-use drawing::{put, put_byte, put_next, put_number};
+use drawing::{Out, put, put_byte, put_next, put_number};
 use plan::kind;
 
 // What a receive or an arm asks for; a count of 0 where there is none.
@@ -162,14 +162,7 @@ fn wide(x: u32) -> u64 {
     x as u64
 }
 
-fn put_counts(
-    out: &mut [u8; 4096],
-    used: usize,
-    line: u64,
-    here: u32,
-    other: u64,
-    there: u32,
-) -> usize {
+fn put_counts(out: &mut Out, used: usize, line: u64, here: u32, other: u64, there: u32) -> usize {
     let mut at = put(out, used, b"write 21");
     at = put_next(out, at, line);
     at = put(out, at, b" - takes ");
@@ -189,7 +182,7 @@ pub(crate) fn put_disagreeing(
     rows: &[u32; 87100],
     lines: &[u32; 4355],
     row: usize,
-    out: &mut [u8; 4096],
+    out: &mut Out,
     used: usize,
 ) -> usize {
     let here = asked_in(text, rows, lines, row);

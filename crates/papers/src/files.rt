@@ -1,15 +1,16 @@
 // A state with its tally and its names in a file: save and open.
 use super::sums::sum_of;
 use super::writing::forget;
-use super::{Desk, changed, failed, sealed, shown};
-use drawing::{put, put_byte, put_error, put_next, put_refusal};
+use super::{Desk, changed, failed, sealed, shown, system};
+use drawing::{Out, put, put_byte, put_error, put_next, put_refusal, runtime_of};
 use machine::State;
 use plan::Answer;
 use plan::table::LENGTH;
+use std::fs::File;
 use store::Kept;
 
 // Why a call of the system failed.
-fn put_reason(out: &mut [u8; 4096], used: usize, errno: i32) -> usize {
+fn put_reason(out: &mut Out, used: usize, errno: i32) -> usize {
     match errno {
         1 | 13 => put(out, used, b"permission denied"),
         2 => put(out, used, b"no such file or folder"),
@@ -27,7 +28,7 @@ fn put_reason(out: &mut [u8; 4096], used: usize, errno: i32) -> usize {
 }
 
 // A command that failed: `error LINE cannot WORD: REASON`.
-pub fn put_failed(out: &mut [u8; 4096], used: usize, line: u64, word: &[u8], errno: i32) -> usize {
+pub fn put_failed(out: &mut Out, used: usize, line: u64, word: &[u8], errno: i32) -> usize {
     let mut at = put(out, used, b"error");
     at = put_next(out, at, line);
     at = put(out, at, b" cannot ");
@@ -35,15 +36,6 @@ pub fn put_failed(out: &mut [u8; 4096], used: usize, line: u64, word: &[u8], err
     at = put(out, at, b": ");
     at = put_reason(out, at, errno);
     put_byte(out, at, 10)
-}
-
-// What the last failing call left as its reason; 5, an error of the device, where it left none.
-pub fn failure() -> i32 {
-    let e = os::errno();
-    if e == 0 {
-        return 5;
-    }
-    e
 }
 
 fn set_at(name: &mut [u8; 4096], i: usize, b: u8) {
@@ -72,50 +64,31 @@ fn at_most(at: usize, i: usize) -> usize {
     4096
 }
 
-// All of a state is written, and is on disk: 0, or the reason.
-fn written(fd: i32, packed: &[u8]) -> i32 {
-    if !io::write_all(fd, packed) {
-        return failure();
-    }
-    if libc::fsync(fd) < 0 {
-        return failure();
-    }
-    0
+// All of a state is written, and is on disk, and the file is closed: 0, or the reason.
+fn written_whole(file: File, packed: &[u8]) -> i32 {
+    system::written(&file, packed)
 }
 
-// The same, and the file is closed.
-fn written_whole(fd: i32, packed: &[u8]) -> i32 {
-    let e = written(fd, packed);
-    if libc::close(fd) < 0 {
-        if e == 0 {
-            return failure();
-        }
+// A new file takes the name of the old one: 0, or the reason, and then the new file is gone.
+pub fn replaced_by(runtime: HostRuntime, new: &[u8], file: &[u8]) -> i32 {
+    let e = system::rename(runtime, new, file);
+    if e != 0 {
+        system::unlink(runtime, new);
     }
     e
 }
 
-// A new file takes the name of the old one: 0, or the reason, and then the new file is gone.
-pub fn replaced_by(new: &[u8], file: &[u8]) -> i32 {
-    if os::rename(new, file) < 0 {
-        let e = failure();
-        os::unlink(new);
-        return e;
-    }
-    0
-}
-
 // A state is written to a new file, whose name `new` becomes; that file then takes the name of the old one. 0, or the reason.
-fn replaced(new: &mut [u8], file: &[u8], packed: &[u8]) -> i32 {
-    let fd = os::create_temp(new);
-    if fd < 0 {
-        return failure();
-    }
-    let e = written_whole(fd, packed);
+fn replaced(runtime: HostRuntime, new: &mut [u8], file: &[u8], packed: &[u8]) -> i32 {
+    let e = match system::create_temp(runtime, new) {
+        Ok(made) => written_whole(made, packed),
+        Err(reason) => return reason,
+    };
     if e != 0 {
-        os::unlink(new);
+        system::unlink(runtime, new);
         return e;
     }
-    replaced_by(new, file)
+    replaced_by(runtime, new, file)
 }
 
 // The place after the last slash of a name: where the name of its folder ends.
@@ -131,50 +104,54 @@ fn folder_of(file: &[u8]) -> usize {
     end
 }
 
-fn opened_folder(file: &[u8], end: usize) -> i32 {
+fn opened_folder(runtime: HostRuntime, file: &[u8], end: usize) -> Result<File, i32> {
     if end == 0 {
-        return os::open_read(b".");
+        return system::open_read(runtime, b".");
     }
     if end <= file.len() {
-        return os::open_read(&file[0..end]);
+        return system::open_read(runtime, &file[0..end]);
     }
-    -1
+    Err(2)
 }
 
 // The folder of a file is on disk too, where the system can do that, so that the new name is.
-fn folder_kept(file: &[u8]) {
-    let fd = opened_folder(file, folder_of(file));
-    if 0 <= fd {
-        libc::fsync(fd);
-        libc::close(fd);
+fn folder_kept(runtime: HostRuntime, file: &[u8]) {
+    if let Ok(folder) = opened_folder(runtime, file, folder_of(file)) {
+        system::synced(&folder);
     }
 }
 
-fn replaced_at(name: &mut [u8], n: usize, file: &[u8], packed: &[u8]) -> i32 {
+fn replaced_at(runtime: HostRuntime, name: &mut [u8], n: usize, file: &[u8], packed: &[u8]) -> i32 {
     if name.len() <= n {
-        return libc::ENAMETOOLONG;
+        return system::LONG_NAME;
     }
-    let e = replaced(&mut name[0..n], file, packed);
+    let e = replaced(runtime, &mut name[0..n], file, packed);
     if e == 0 {
-        folder_kept(file);
+        folder_kept(runtime, file);
     }
     e
 }
 
-fn replaced_in(name: &mut [u8; 4096], n: usize, file: &[u8], packed: &[u8]) -> i32 {
-    replaced_at(name, n, file, packed)
+fn replaced_in(
+    runtime: HostRuntime,
+    name: &mut [u8; 4096],
+    n: usize,
+    file: &[u8],
+    packed: &[u8],
+) -> i32 {
+    replaced_at(runtime, name, n, file, packed)
 }
 
 // Saves a state by the name of its file: 0, or the reason.
-fn saved(file: &[u8], packed: &[u8]) -> i32 {
+fn saved(runtime: HostRuntime, file: &[u8], packed: &[u8]) -> i32 {
     let mut name = [0u8; 4096];
     let at = put_name(&mut name, 0, file);
     let n = put_name(&mut name, at, b".XXXXXX");
-    replaced_in(&mut name, n, file, packed)
+    replaced_in(runtime, &mut name, n, file, packed)
 }
 
 // What a save or an open comes to.
-fn told(desk: Desk, number: u64, word: &[u8], e: i32, out: &mut [u8; 4096]) -> Desk {
+fn told(desk: Desk, number: u64, word: &[u8], e: i32, out: &mut Out) -> Desk {
     if e == 0 {
         let used = put_refusal(out, desk.used, word, 0);
         return shown(desk, used);
@@ -205,13 +182,7 @@ fn put_desk(desk: Desk, names: &[u8; 16896], file: &mut [u8]) {
 }
 
 // Saves the state, the tally and the names.
-pub fn save(
-    desk: Desk,
-    file: &[u8],
-    number: u64,
-    names: &[u8; 16896],
-    out: &mut [u8; 4096],
-) -> Desk {
+pub fn save(desk: Desk, file: &[u8], number: u64, names: &[u8; 16896], out: &mut Out) -> Desk {
     // what was answered before is written first: where it cannot be, nothing is made lasting
     let used = drawing::flush(out, desk.used);
     let before = shown(desk, used);
@@ -220,7 +191,7 @@ pub fn save(
     }
     let mut bytes = [0u8; 29660];
     put_desk(desk, names, &mut bytes);
-    let e = saved(file, &bytes);
+    let e = saved(runtime_of(out), file, &bytes);
     filed(
         told(before, number, b"save", e, out),
         sum_of(file),
@@ -229,11 +200,11 @@ pub fn save(
 }
 
 // Why nothing was read: 0 where nothing stands there.
-fn unread(fd: i32, n: usize) -> i32 {
+fn unread(opened: &File, n: usize) -> i32 {
     if n == 0 {
         let mut one = [0u8; 1];
-        if libc::read(fd, &mut one) < 0 {
-            return failure();
+        if let Err(reason) = system::read_some(opened, &mut one) {
+            return reason;
         }
     }
     0
@@ -274,7 +245,7 @@ pub(crate) fn copied(plan: &[u8; 4096], bytes: &mut [u8; 8000]) {
     }
 }
 
-fn put_foreign(desk: Desk, number: u64, out: &mut [u8; 4096]) -> Desk {
+fn put_foreign(desk: Desk, number: u64, out: &mut Out) -> Desk {
     let used = put_error(
         out,
         desk.used,
@@ -285,7 +256,7 @@ fn put_foreign(desk: Desk, number: u64, out: &mut [u8; 4096]) -> Desk {
 }
 
 // The desk on a state that was kept. Its plan is the last plan.
-fn reopened(desk: Desk, kept: Kept, bytes: &mut [u8; 8000], out: &mut [u8; 4096]) -> Desk {
+fn reopened(desk: Desk, kept: Kept, bytes: &mut [u8; 8000], out: &mut Out) -> Desk {
     let state = kept.state;
     let tally = kept.tally;
     let plan = state.plan;
@@ -300,7 +271,7 @@ fn taken(
     number: u64,
     bytes: &mut [u8; 8000],
     names: &mut [u8; 16896],
-    out: &mut [u8; 4096],
+    out: &mut Out,
 ) -> Desk {
     if kept.refused {
         return put_foreign(desk, number, out);
@@ -316,7 +287,7 @@ fn taken(
 }
 
 // A file that a desk saved, or a state of a host's, and something is amiss with it.
-fn put_changed(desk: Desk, number: u64, out: &mut [u8; 4096]) -> Desk {
+fn put_changed(desk: Desk, number: u64, out: &mut Out) -> Desk {
     let used = put_error(
         out,
         desk.used,
@@ -349,7 +320,7 @@ fn taken_whole(
     number: u64,
     bytes: &mut [u8; 8000],
     names: &mut [u8; 16896],
-    out: &mut [u8; 4096],
+    out: &mut Out,
 ) -> Desk {
     let kept = kept_front(file);
     let d = taken(desk, kept, number, bytes, names, out);
@@ -366,7 +337,7 @@ fn taken_from(
     number: u64,
     bytes: &mut [u8; 8000],
     names: &mut [u8; 16896],
-    out: &mut [u8; 4096],
+    out: &mut Out,
 ) -> Desk {
     if sealed::is_sealed(file) {
         return taken_whole(desk, file, number, bytes, names, out);
@@ -384,17 +355,16 @@ fn taken_from(
 // What a file that was opened holds becomes the state, the tally and the names; `file` is the sum of its name.
 fn read(
     desk: Desk,
-    fd: i32,
+    opened: File,
     file: u64,
     number: u64,
     bytes: &mut [u8; 8000],
     names: &mut [u8; 16896],
-    out: &mut [u8; 4096],
+    out: &mut Out,
 ) -> Desk {
     let mut held = [0u8; sealed::READ];
-    let n = io::read_full(fd, &mut held);
-    let e = unread(fd, n);
-    libc::close(fd);
+    let n = system::read_full(&opened, &mut held);
+    let e = unread(&opened, n);
     if e != 0 {
         return told(desk, number, b"open", e, out);
     }
@@ -410,11 +380,10 @@ pub fn open(
     number: u64,
     bytes: &mut [u8; 8000],
     names: &mut [u8; 16896],
-    out: &mut [u8; 4096],
+    out: &mut Out,
 ) -> Desk {
-    let fd = os::open_read(file);
-    if fd < 0 {
-        return told(desk, number, b"open", failure(), out);
+    match system::open_read(runtime_of(out), file) {
+        Ok(opened) => read(desk, opened, sum_of(file), number, bytes, names, out),
+        Err(reason) => told(desk, number, b"open", reason, out),
     }
-    read(desk, fd, sum_of(file), number, bytes, names, out)
 }

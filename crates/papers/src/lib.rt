@@ -12,11 +12,13 @@ mod reasons;
 mod rules;
 mod sealed;
 mod sums;
+pub mod system;
 mod writing;
 
 pub use brakes::{braked, is_braked, live_in, put_lost};
 pub use checks::{check, warn};
-pub use files::{failure, kept_front, open, put_failed, put_name, replaced_by, save};
+pub use drawing::failure;
+pub use files::{kept_front, open, put_failed, put_name, replaced_by, save};
 use machine::{State, Tally};
 pub use mends::mend;
 pub use plans::{draw, load, names, new, show};

@@ -2,12 +2,12 @@
 use super::plans::fresh;
 use super::writing::forget;
 use super::{Desk, failed, refused};
-use drawing::{put, put_byte, put_error, put_hex, put_number, put_pair};
+use drawing::{Out, put, put_byte, put_error, put_hex, put_number, put_pair};
 use mend::Answer;
 use text::Hex;
 
 // How many groups were cut, and the mended plan.
-fn put_mended(plan: &[u8], cut: usize, out: &mut [u8; 4096], used: usize) -> usize {
+fn put_mended(plan: &[u8], cut: usize, out: &mut Out, used: usize) -> usize {
     let mut at = put(out, used, b"mend 0 ");
     at = put_number(out, at, cut as u64);
     at = put_byte(out, at, 32);
@@ -16,7 +16,7 @@ fn put_mended(plan: &[u8], cut: usize, out: &mut [u8; 4096], used: usize) -> usi
 }
 
 // A desk on the mended plan, which is the first `length` bytes, with a fresh state.
-fn mended_of(desk: Desk, bytes: &[u8], length: usize, cut: usize, out: &mut [u8; 4096]) -> Desk {
+fn mended_of(desk: Desk, bytes: &[u8], length: usize, cut: usize, out: &mut Out) -> Desk {
     if length <= bytes.len() {
         let used = put_mended(&bytes[0..length], cut, out, desk.used);
         let loaded = machine::load(&bytes[0..length]);
@@ -31,7 +31,7 @@ fn mended(
     length: usize,
     cut: usize,
     names: &mut [u8; 16896],
-    out: &mut [u8; 4096],
+    out: &mut Out,
 ) -> Desk {
     let before = desk.state;
     forget(before, bytes, length, names);
@@ -44,7 +44,7 @@ fn mend_into(
     padded: &[u8],
     bytes: &mut [u8; 8000],
     names: &mut [u8; 16896],
-    out: &mut [u8; 4096],
+    out: &mut Out,
 ) -> Desk {
     let a = mend::mend(padded, bytes);
     match a {
@@ -62,7 +62,7 @@ fn mend_part(
     count: usize,
     bytes: &mut [u8; 8000],
     names: &mut [u8; 16896],
-    out: &mut [u8; 4096],
+    out: &mut Out,
 ) -> Desk {
     if count <= given.len() {
         return mend_into(desk, &given[0..count], bytes, names, out);
@@ -76,7 +76,7 @@ fn mend_in(
     count: usize,
     bytes: &mut [u8; 8000],
     names: &mut [u8; 16896],
-    out: &mut [u8; 4096],
+    out: &mut Out,
 ) -> Desk {
     mend_part(desk, given, count, bytes, names, out)
 }
@@ -88,7 +88,7 @@ pub fn mend(
     number: u64,
     bytes: &mut [u8; 8000],
     names: &mut [u8; 16896],
-    out: &mut [u8; 4096],
+    out: &mut Out,
 ) -> Desk {
     let mut given = [0u8; 8000];
     let h = text::decode(word, &mut given);

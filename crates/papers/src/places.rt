@@ -1,5 +1,5 @@
 // Where in a line of a text something is wrong: the word that stands there, and its column, counted from 1.
-use drawing::{put, put_byte, put_next};
+use drawing::{Out, put, put_byte, put_next};
 use sheet::{past_blanks, word_end};
 
 fn byte_at(text: &[u8], at: usize) -> u8 {
@@ -30,7 +30,7 @@ fn after(column: u64, b: u8) -> u64 {
     column
 }
 
-fn put_part(out: &mut [u8; 4096], used: usize, text: &[u8], from: usize, to: usize) -> usize {
+fn put_part(out: &mut Out, used: usize, text: &[u8], from: usize, to: usize) -> usize {
     if from <= to {
         if to <= text.len() {
             return put(out, used, &text[from..to]);
@@ -48,7 +48,7 @@ fn is_shown(b: u8) -> bool {
 }
 
 // What stands at a place: a word, or a mark.
-fn put_quoted(out: &mut [u8; 4096], used: usize, text: &[u8], from: usize) -> usize {
+fn put_quoted(out: &mut Out, used: usize, text: &[u8], from: usize) -> usize {
     let to = word_end(text, from);
     let mut at = put(out, used, b" - '");
     if from < to {
@@ -59,7 +59,7 @@ fn put_quoted(out: &mut [u8; 4096], used: usize, text: &[u8], from: usize) -> us
     put(out, at, b"'")
 }
 
-fn put_found(out: &mut [u8; 4096], used: usize, text: &[u8], from: usize) -> usize {
+fn put_found(out: &mut Out, used: usize, text: &[u8], from: usize) -> usize {
     let b = byte_at(text, from);
     if b == 9 {
         return put(out, used, b" - a tab");
@@ -74,7 +74,7 @@ fn put_found(out: &mut [u8; 4096], used: usize, text: &[u8], from: usize) -> usi
 }
 
 // ` - 'WORD', column COLUMN`; nothing where the place is not in the text.
-pub(crate) fn put_place(out: &mut [u8; 4096], used: usize, text: &[u8], place: usize) -> usize {
+pub(crate) fn put_place(out: &mut Out, used: usize, text: &[u8], place: usize) -> usize {
     if place < text.len() {
         let from = past_blanks(text, place);
         let mut at = put_found(out, used, text, from);

@@ -1,14 +1,16 @@
 // The commands on plans: plan, show, draw and names. The last plan is the first `plan` bytes of `bytes`, accepted or refused.
 use super::writing::forget;
 use super::{Desk, changed, failed, refused, shown};
-use drawing::{put, put_byte, put_drawing, put_error, put_hex, put_names, put_number, put_pair};
+use drawing::{
+    Out, put, put_byte, put_drawing, put_error, put_hex, put_names, put_number, put_pair,
+};
 use machine::Loaded;
 use plan::Answer;
 use plan::table::{LENGTH, Table};
 use text::Hex;
 
 // What a plan is found to be.
-fn put_plan(s: &[u8], out: &mut [u8; 4096], used: usize) -> usize {
+fn put_plan(s: &[u8], out: &mut Out, used: usize) -> usize {
     let mut table = [0u32; LENGTH];
     let mut correlation = [0u8; 16];
     let a = plan::accept(s, &mut table, &mut correlation);
@@ -36,7 +38,7 @@ fn put_accepted(
     variables: u32,
     activities: usize,
     drawn: bool,
-    out: &mut [u8; 4096],
+    out: &mut Out,
     used: usize,
 ) -> usize {
     let at = put_names(out, used, names, correlation, variables);
@@ -46,20 +48,14 @@ fn put_accepted(
     put_byte(out, at, 10)
 }
 
-fn put_refused(drawn: bool, number: u32, place: usize, out: &mut [u8; 4096], used: usize) -> usize {
+fn put_refused(drawn: bool, number: u32, place: usize, out: &mut Out, used: usize) -> usize {
     if drawn {
         return put_pair(out, used, b"draw", number as u64, place as u64);
     }
     put_pair(out, used, b"names", number as u64, place as u64)
 }
 
-fn put_draw(
-    s: &[u8],
-    names: &[u8; 16896],
-    drawn: bool,
-    out: &mut [u8; 4096],
-    used: usize,
-) -> usize {
+fn put_draw(s: &[u8], names: &[u8; 16896], drawn: bool, out: &mut Out, used: usize) -> usize {
     let mut table = [0u32; LENGTH];
     let mut correlation = [0u8; 16];
     let a = plan::accept(s, &mut table, &mut correlation);
@@ -83,7 +79,7 @@ fn put_draw(
 }
 
 // What a show finds, after its refusal.
-fn put_shown(part: &[u8], refusal: u32, out: &mut [u8; 4096], used: usize) -> usize {
+fn put_shown(part: &[u8], refusal: u32, out: &mut Out, used: usize) -> usize {
     let mut at = put(out, used, b"show ");
     at = put_number(out, at, refusal as u64);
     if refusal == 0 {
@@ -93,7 +89,7 @@ fn put_shown(part: &[u8], refusal: u32, out: &mut [u8; 4096], used: usize) -> us
     put_byte(out, at, 10)
 }
 
-fn put_show(s: &[u8], k: u32, out: &mut [u8; 4096], used: usize) -> usize {
+fn put_show(s: &[u8], k: u32, out: &mut Out, used: usize) -> usize {
     let mut start: usize = 0;
     let mut refusal = 0u32;
     let part = show::show(s, k as usize, &mut start, &mut refusal);
@@ -106,7 +102,7 @@ fn draw_of(
     plan: usize,
     names: &[u8; 16896],
     drawn: bool,
-    out: &mut [u8; 4096],
+    out: &mut Out,
     used: usize,
 ) -> usize {
     if plan <= bytes.len() {
@@ -115,24 +111,24 @@ fn draw_of(
     used
 }
 
-pub fn draw(desk: Desk, bytes: &[u8; 8000], names: &[u8; 16896], out: &mut [u8; 4096]) -> Desk {
+pub fn draw(desk: Desk, bytes: &[u8; 8000], names: &[u8; 16896], out: &mut Out) -> Desk {
     let used = draw_of(bytes, desk.plan, names, true, out, desk.used);
     shown(desk, used)
 }
 
-pub fn names(desk: Desk, bytes: &[u8; 8000], names: &[u8; 16896], out: &mut [u8; 4096]) -> Desk {
+pub fn names(desk: Desk, bytes: &[u8; 8000], names: &[u8; 16896], out: &mut Out) -> Desk {
     let used = draw_of(bytes, desk.plan, names, false, out, desk.used);
     shown(desk, used)
 }
 
-fn show_of(bytes: &[u8], plan: usize, k: u32, out: &mut [u8; 4096], used: usize) -> usize {
+fn show_of(bytes: &[u8], plan: usize, k: u32, out: &mut Out, used: usize) -> usize {
     if plan <= bytes.len() {
         return put_show(&bytes[0..plan], k, out, used);
     }
     used
 }
 
-pub fn show(desk: Desk, k: u32, bytes: &[u8; 8000], out: &mut [u8; 4096]) -> Desk {
+pub fn show(desk: Desk, k: u32, bytes: &[u8; 8000], out: &mut Out) -> Desk {
     let used = show_of(bytes, desk.plan, k, out, desk.used);
     shown(desk, used)
 }
@@ -168,7 +164,7 @@ pub fn new() -> Desk {
 }
 
 // A desk on the plan that some bytes spell.
-fn loaded_of(desk: Desk, bytes: &[u8], plan: usize, out: &mut [u8; 4096]) -> Desk {
+fn loaded_of(desk: Desk, bytes: &[u8], plan: usize, out: &mut Out) -> Desk {
     if plan <= bytes.len() {
         let used = put_plan(&bytes[0..plan], out, desk.used);
         let loaded = machine::load(&bytes[0..plan]);
@@ -177,7 +173,7 @@ fn loaded_of(desk: Desk, bytes: &[u8], plan: usize, out: &mut [u8; 4096]) -> Des
     desk
 }
 
-fn loaded_in(desk: Desk, bytes: &[u8; 8000], plan: usize, out: &mut [u8; 4096]) -> Desk {
+fn loaded_in(desk: Desk, bytes: &[u8; 8000], plan: usize, out: &mut Out) -> Desk {
     loaded_of(desk, bytes, plan, out)
 }
 
@@ -188,7 +184,7 @@ pub fn load(
     number: u64,
     bytes: &mut [u8; 8000],
     names: &mut [u8; 16896],
-    out: &mut [u8; 4096],
+    out: &mut Out,
 ) -> Desk {
     let h = text::decode(word, bytes);
     match h {

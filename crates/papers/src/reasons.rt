@@ -1,8 +1,8 @@
 // What is wrong with a line of a text, by the reasons of the crate sheet.
-use drawing::put;
+use drawing::{Out, put};
 
 // Of a declaration.
-fn put_declaration(out: &mut [u8; 4096], used: usize, reason: usize) -> usize {
+fn put_declaration(out: &mut Out, used: usize, reason: usize) -> usize {
     match reason {
         1 => put(
             out,
@@ -21,7 +21,7 @@ fn put_declaration(out: &mut [u8; 4096], used: usize, reason: usize) -> usize {
 }
 
 // Of what an activity says of itself.
-fn put_activity(out: &mut [u8; 4096], used: usize, reason: usize) -> usize {
+fn put_activity(out: &mut Out, used: usize, reason: usize) -> usize {
     match reason {
         6 => put(out, used, b"no such activity"),
         7 => put(out, used, b"expected 'partner P, operation O: V, ..'"),
@@ -59,7 +59,7 @@ fn put_activity(out: &mut [u8; 4096], used: usize, reason: usize) -> usize {
 }
 
 // Of where it stands.
-fn put_place(out: &mut [u8; 4096], used: usize, reason: usize) -> usize {
+fn put_place(out: &mut Out, used: usize, reason: usize) -> usize {
     match reason {
         12 => put(out, used, b"the text has more than a plan can hold"),
         14 => put(
@@ -115,7 +115,7 @@ fn is_of_activity(reason: usize) -> bool {
     23 < reason
 }
 
-pub(crate) fn put_why(out: &mut [u8; 4096], used: usize, reason: usize) -> usize {
+pub(crate) fn put_why(out: &mut Out, used: usize, reason: usize) -> usize {
     if is_of_declaration(reason) {
         return put_declaration(out, used, reason);
     }

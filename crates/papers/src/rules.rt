@@ -1,10 +1,10 @@
 // Which rule a line of a text breaks, where it earns 5: by what stands in the row that is refused.
 use super::disagreeing::{cell, is_arm, line_of};
-use drawing::put;
+use drawing::{Out, put};
 use plan::kind;
 
 // The rule of a message that is sent or received.
-fn put_message(out: &mut [u8; 4096], used: usize) -> usize {
+fn put_message(out: &mut Out, used: usize) -> usize {
     put(
         out,
         used,
@@ -13,7 +13,7 @@ fn put_message(out: &mut [u8; 4096], used: usize) -> usize {
 }
 
 // By the code that an activity begins with.
-fn put_activity(out: &mut [u8; 4096], used: usize, code: u32) -> usize {
+fn put_activity(out: &mut Out, used: usize, code: u32) -> usize {
     match code {
         kind::SEND | kind::RECEIVE => put_message(out, used),
         kind::HELD_SEND => put(
@@ -39,7 +39,7 @@ fn put_activity(out: &mut [u8; 4096], used: usize, code: u32) -> usize {
 }
 
 // The rule of the fault parts by number: of their count, and of each number, which have a row of one number each.
-fn put_numbers(out: &mut [u8; 4096], used: usize) -> usize {
+fn put_numbers(out: &mut Out, used: usize) -> usize {
     put(
         out,
         used,
@@ -57,7 +57,7 @@ fn is_variable(numbers: u32, code: u32) -> bool {
 
 // The rule of this row.
 pub(crate) fn put_rule(
-    out: &mut [u8; 4096],
+    out: &mut Out,
     used: usize,
     text: &[u8],
     rows: &[u32; 87100],

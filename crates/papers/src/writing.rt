@@ -7,7 +7,7 @@ use super::plans::fresh;
 use super::reasons::put_why;
 use super::rules::put_rule;
 use super::{Desk, failed, refused, shown};
-use drawing::{put, put_byte, put_hex, put_next, put_pair, unended};
+use drawing::{Out, put, put_byte, put_hex, put_next, put_pair, unended};
 use machine::State;
 use sheet::Sheet;
 use writer::Answer;
@@ -88,7 +88,7 @@ fn line_of(lines: &[u32; 4355], row: usize) -> u64 {
 
 // What is wrong with a line of the text, and, where it is to be pointed at, by which word.
 fn put_wrong(
-    out: &mut [u8; 4096],
+    out: &mut Out,
     used: usize,
     line: u64,
     reason: usize,
@@ -106,14 +106,14 @@ fn put_wrong(
     put_byte(out, at, 10)
 }
 
-fn put_written(out: &mut [u8; 4096], used: usize, plan: &[u8]) -> usize {
+fn put_written(out: &mut Out, used: usize, plan: &[u8]) -> usize {
     let mut at = put(out, used, b"write 0 ");
     at = put_hex(out, at, plan);
     put_byte(out, at, 10)
 }
 
 // A desk on a plan that was written, with a fresh state.
-fn written_of(desk: Desk, plan: &[u8], length: usize, out: &mut [u8; 4096]) -> Desk {
+fn written_of(desk: Desk, plan: &[u8], length: usize, out: &mut Out) -> Desk {
     if length <= plan.len() {
         let used = put_written(out, desk.used, &plan[0..length]);
         let loaded = machine::load(&plan[0..length]);
@@ -129,7 +129,7 @@ fn renamed(
     plan: &[u8],
     length: usize,
     names: &mut [u8; 16896],
-    out: &mut [u8; 4096],
+    out: &mut Out,
 ) -> Desk {
     if length <= plan.len() {
         sheet::names_of(text, names);
@@ -157,7 +157,7 @@ fn written_with_care(
     number: u64,
     bytes: &mut [u8; 8000],
     names: &mut [u8; 16896],
-    out: &mut [u8; 4096],
+    out: &mut Out,
 ) -> Desk {
     let state = desk.state;
     if is_running(state, plan, length) {
@@ -176,7 +176,7 @@ fn written(
     length: usize,
     bytes: &mut [u8; 8000],
     names: &mut [u8; 16896],
-    out: &mut [u8; 4096],
+    out: &mut Out,
 ) -> Desk {
     copied(plan, bytes);
     sheet::names_of(text, names);
@@ -200,7 +200,7 @@ fn ruled(
     rows: &[u32; 87100],
     lines: &[u32; 4355],
     row: usize,
-    out: &mut [u8; 4096],
+    out: &mut Out,
 ) -> Desk {
     if desk.said != 5 {
         return desk;
@@ -224,7 +224,7 @@ fn write_rows(
     lines: &[u32; 4355],
     bytes: &mut [u8; 8000],
     names: &mut [u8; 16896],
-    out: &mut [u8; 4096],
+    out: &mut Out,
 ) -> Desk {
     let mut plan = [0u8; 4096];
     let a = answer_of(rows, length, &mut plan);
@@ -258,7 +258,7 @@ pub fn write(
     number: u64,
     bytes: &mut [u8; 8000],
     names: &mut [u8; 16896],
-    out: &mut [u8; 4096],
+    out: &mut Out,
 ) -> Desk {
     let mut rows = [0u32; 87100];
     let mut lines = [0u32; 4355];

@@ -1,9 +1,9 @@
 // What each fault is called, by its number. docs/DESK.md has the same table, and tools/check-desk-doc holds the two to each other.
-use drawing::{number_at, numbers_of, put, put_aligned, put_byte, put_fault_name, put_scope};
+use drawing::{Out, number_at, numbers_of, put, put_aligned, put_byte, put_fault_name, put_scope};
 use plan::table::Table;
 
 // What a fault that no raise with a number makes is called.
-fn put_own(out: &mut [u8; 4096], used: usize, fault: u8) -> usize {
+fn put_own(out: &mut Out, used: usize, fault: u8) -> usize {
     match fault {
         0 => put(out, used, b"a plain raise"),
         1 => put(out, used, b"unbound variable"),
@@ -16,7 +16,7 @@ fn put_own(out: &mut [u8; 4096], used: usize, fault: u8) -> usize {
 }
 
 // What the fault with this number is called; a raise with a number by the name that it may have.
-pub fn put_fault(out: &mut [u8; 4096], used: usize, names: &[u8; 16896], fault: u8) -> usize {
+pub fn put_fault(out: &mut Out, used: usize, names: &[u8; 16896], fault: u8) -> usize {
     if fault < 6 {
         return put_own(out, used, fault);
     }
@@ -24,7 +24,7 @@ pub fn put_fault(out: &mut [u8; 4096], used: usize, names: &[u8; 16896], fault: 
 }
 
 // Behind a colon, what was said to be of this fault.
-pub fn put_by_fault(out: &mut [u8; 4096], used: usize, names: &[u8; 16896], fault: u8) -> usize {
+pub fn put_by_fault(out: &mut Out, used: usize, names: &[u8; 16896], fault: u8) -> usize {
     let at = put(out, used, b": ");
     put_fault(out, at, names, fault)
 }
@@ -46,7 +46,7 @@ fn narrow(number: u32) -> u8 {
 
 // The fault that fault part i of scope n, counted from 1, is for.
 fn put_by_part(
-    out: &mut [u8; 4096],
+    out: &mut Out,
     used: usize,
     names: &[u8; 16896],
     table: &Table,
@@ -64,7 +64,7 @@ fn put_by_part(
 // The fault of scope n, by the fault part that it has chosen: one by number, or the general one, which says which of the engine's own faults it was. A scope that
 // faulted before its marks told it does not say.
 fn put_by_choice(
-    out: &mut [u8; 4096],
+    out: &mut Out,
     used: usize,
     names: &[u8; 16896],
     table: &Table,
@@ -80,7 +80,7 @@ fn put_by_choice(
 
 // Scope n, which has this mark and has faulted, and by which fault.
 pub fn put_scope_faulted(
-    out: &mut [u8; 4096],
+    out: &mut Out,
     used: usize,
     names: &[u8; 16896],
     table: &Table,
@@ -92,7 +92,7 @@ pub fn put_scope_faulted(
     put_by_choice(out, at, names, table, n, mark / 16)
 }
 
-fn put_row(out: &mut [u8; 4096], used: usize, fault: u8) -> usize {
+fn put_row(out: &mut Out, used: usize, fault: u8) -> usize {
     let mut at = put_aligned(out, used, fault as u64);
     at = put(out, at, b"  ");
     at = put_own(out, at, fault);
@@ -100,7 +100,7 @@ fn put_row(out: &mut [u8; 4096], used: usize, fault: u8) -> usize {
 }
 
 // All of them, a line for each, and a blank line.
-pub fn put_faults(out: &mut [u8; 4096], used: usize) -> usize {
+pub fn put_faults(out: &mut Out, used: usize) -> usize {
     let mut at = put_row(out, used, 0);
     at = put_row(out, at, 1);
     at = put_row(out, at, 2);

@@ -1,9 +1,9 @@
 // The help: a line for each command, and more on one.
-use drawing::{put, put_byte};
+use drawing::{Out, put, put_byte};
 use text::same;
 
 // The first commands, a line each.
-fn put_first(out: &mut [u8; 4096], used: usize, k: usize) -> usize {
+fn put_first(out: &mut Out, used: usize, k: usize) -> usize {
     match k {
         0 => put(
             out,
@@ -75,7 +75,7 @@ fn put_first(out: &mut [u8; 4096], used: usize, k: usize) -> usize {
 }
 
 // The others.
-fn put_second(out: &mut [u8; 4096], used: usize, k: usize) -> usize {
+fn put_second(out: &mut Out, used: usize, k: usize) -> usize {
     match k {
         13 => put(
             out,
@@ -148,7 +148,7 @@ fn put_second(out: &mut [u8; 4096], used: usize, k: usize) -> usize {
 }
 
 // More on the first.
-fn put_more_first(out: &mut [u8; 4096], used: usize, k: usize) -> usize {
+fn put_more_first(out: &mut Out, used: usize, k: usize) -> usize {
     match k {
         0 => put(
             out,
@@ -216,7 +216,7 @@ fn put_more_first(out: &mut [u8; 4096], used: usize, k: usize) -> usize {
 }
 
 // More on the others.
-fn put_more_second(out: &mut [u8; 4096], used: usize, k: usize) -> usize {
+fn put_more_second(out: &mut Out, used: usize, k: usize) -> usize {
     match k {
         13 => put(
             out,
@@ -328,20 +328,20 @@ fn is_second(word: &[u8], k: usize) -> bool {
 // How many commands there are.
 const TOPICS: usize = 27;
 
-fn put_line(out: &mut [u8; 4096], used: usize, k: usize) -> usize {
+fn put_line(out: &mut Out, used: usize, k: usize) -> usize {
     let mut at = put_first(out, used, k);
     at = put_second(out, at, k);
     put_byte(out, at, 10)
 }
 
-fn put_more(out: &mut [u8; 4096], used: usize, k: usize) -> usize {
+fn put_more(out: &mut Out, used: usize, k: usize) -> usize {
     let mut at = put_more_first(out, used, k);
     at = put_more_second(out, at, k);
     put_byte(out, at, 10)
 }
 
 // All commands, a line for each, and a blank line.
-pub fn put_help(out: &mut [u8; 4096], used: usize) -> usize {
+pub fn put_help(out: &mut Out, used: usize) -> usize {
     let mut at = used;
     let mut k = 0;
     while k < TOPICS {
@@ -371,7 +371,7 @@ fn topic_of(word: &[u8]) -> usize {
 }
 
 // More on one command, and a blank line. Nothing where the word is none.
-pub fn put_help_on(out: &mut [u8; 4096], used: usize, word: &[u8]) -> usize {
+pub fn put_help_on(out: &mut Out, used: usize, word: &[u8]) -> usize {
     let k = topic_of(word);
     if TOPICS <= k {
         return used;

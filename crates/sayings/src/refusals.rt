@@ -1,8 +1,8 @@
 // A sentence for each refusal. docs/DESK.md has the same table, and tools/check-desk-doc holds the two to each other.
-use drawing::{put, put_aligned, put_byte};
+use drawing::{Out, put, put_aligned, put_byte};
 
 // Of a plan.
-fn put_of_plan(out: &mut [u8; 4096], used: usize, refusal: u32) -> usize {
+fn put_of_plan(out: &mut Out, used: usize, refusal: u32) -> usize {
     match refusal {
         1 => put(out, used, b"the plan has more than 4096 bytes"),
         2 => put(out, used, b"the bytes end before the plan does"),
@@ -34,7 +34,7 @@ fn put_of_plan(out: &mut [u8; 4096], used: usize, refusal: u32) -> usize {
 }
 
 // Of what runs by one.
-fn put_of_state(out: &mut [u8; 4096], used: usize, refusal: u32) -> usize {
+fn put_of_state(out: &mut Out, used: usize, refusal: u32) -> usize {
     match refusal {
         10 => put(out, used, b"nothing is offered, and nothing is held"),
         11 => put(
@@ -68,7 +68,7 @@ fn is_of_plan(refusal: u32) -> bool {
 }
 
 // What a refusal means.
-pub fn put_sentence(out: &mut [u8; 4096], used: usize, refusal: u32) -> usize {
+pub fn put_sentence(out: &mut Out, used: usize, refusal: u32) -> usize {
     if is_of_plan(refusal) {
         return put_of_plan(out, used, refusal);
     }
@@ -76,14 +76,14 @@ pub fn put_sentence(out: &mut [u8; 4096], used: usize, refusal: u32) -> usize {
 }
 
 // An answer that is refused, told behind its numbers.
-pub fn put_refused(out: &mut [u8; 4096], used: usize, refusal: u32) -> usize {
+pub fn put_refused(out: &mut Out, used: usize, refusal: u32) -> usize {
     let mut at = put(out, used, b" - refused: ");
     at = put_sentence(out, at, refusal);
     put_byte(out, at, 10)
 }
 
 // A drop that is refused: its 15 is of the place.
-pub fn put_undropped(out: &mut [u8; 4096], used: usize, refusal: u32) -> usize {
+pub fn put_undropped(out: &mut Out, used: usize, refusal: u32) -> usize {
     if refusal == 15 {
         return put(out, used, b" - refused: no message waits at this place\n");
     }
@@ -91,14 +91,14 @@ pub fn put_undropped(out: &mut [u8; 4096], used: usize, refusal: u32) -> usize {
 }
 
 // What a refusal means where another command has it.
-fn put_besides(out: &mut [u8; 4096], used: usize, refusal: u32) -> usize {
+fn put_besides(out: &mut Out, used: usize, refusal: u32) -> usize {
     if refusal == 15 {
         return put(out, used, b"; of a drop: none waits at this place");
     }
     used
 }
 
-fn put_row(out: &mut [u8; 4096], used: usize, refusal: u32) -> usize {
+fn put_row(out: &mut Out, used: usize, refusal: u32) -> usize {
     let mut at = put_aligned(out, used, refusal as u64);
     at = put(out, at, b"  ");
     at = put_sentence(out, at, refusal);
@@ -107,7 +107,7 @@ fn put_row(out: &mut [u8; 4096], used: usize, refusal: u32) -> usize {
 }
 
 // All of them, a line for each, and a blank line.
-pub fn put_refusals(out: &mut [u8; 4096], used: usize) -> usize {
+pub fn put_refusals(out: &mut Out, used: usize) -> usize {
     let mut at = used;
     let mut refusal = 1;
     while refusal < 19 {

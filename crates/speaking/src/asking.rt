@@ -1,10 +1,10 @@
 // Why orders stand as they do.
-use drawing::{put, put_error, put_next, put_refusal, unended};
+use drawing::{Out, put, put_error, put_next, put_refusal, unended};
 use order::Order;
 use papers::{Desk, failed, live_in, refused, shown};
 
 // How many orders are live, and then each.
-fn put_asked(desk: Desk, only: usize, names: &[u8; 16896], out: &mut [u8; 4096]) -> Desk {
+fn put_asked(desk: Desk, only: usize, names: &[u8; 16896], out: &mut Out) -> Desk {
     let state = desk.state;
     let orders = state.orders;
     if state.length == 0 {
@@ -21,7 +21,7 @@ fn put_asked(desk: Desk, only: usize, names: &[u8; 16896], out: &mut [u8; 4096])
 }
 
 // Of all orders, and of the messages that nobody takes.
-pub(crate) fn why(desk: Desk, names: &[u8; 16896], out: &mut [u8; 4096]) -> Desk {
+pub(crate) fn why(desk: Desk, names: &[u8; 16896], out: &mut Out) -> Desk {
     put_asked(desk, 16, names, out)
 }
 
@@ -31,7 +31,7 @@ pub(crate) fn why_one(
     slot: u32,
     number: u64,
     names: &[u8; 16896],
-    out: &mut [u8; 4096],
+    out: &mut Out,
 ) -> Desk {
     if 15 < slot {
         let used = put_error(out, desk.used, number, b"the slots are 0 to 15");
@@ -55,7 +55,7 @@ fn is_free(orders: [Order; 16], slot: usize) -> bool {
     true
 }
 
-fn put_free(out: &mut [u8; 4096], used: usize, slot: usize) -> usize {
+fn put_free(out: &mut Out, used: usize, slot: usize) -> usize {
     let mut at = put(out, used, b"why 0 - order");
     at = put_next(out, at, slot as u64);
     put(out, at, b" is free\n")

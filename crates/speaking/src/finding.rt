@@ -1,5 +1,5 @@
 // An order by the value of one of its variables.
-use drawing::{put, put_byte, put_next};
+use drawing::{Out, put, put_byte, put_next};
 use machine::State;
 use order::Order;
 use papers::{Desk, failed, shown};
@@ -52,7 +52,7 @@ fn has(order: Order, variable: usize, value: u32) -> bool {
 
 // Each order that has it, as `order` shows it.
 fn put_orders(
-    out: &mut [u8; 4096],
+    out: &mut Out,
     used: usize,
     names: &[u8; 16896],
     state: State,
@@ -85,7 +85,7 @@ fn some_has(orders: [Order; 16], variable: usize, value: u32) -> bool {
     false
 }
 
-fn none(desk: Desk, word: &[u8], value: u32, number: u64, out: &mut [u8; 4096]) -> Desk {
+fn none(desk: Desk, word: &[u8], value: u32, number: u64, out: &mut Out) -> Desk {
     let mut at = put(out, desk.used, b"error");
     at = put_next(out, at, number);
     at = put(out, at, b" no live order has ");
@@ -102,7 +102,7 @@ pub(crate) fn order_by(
     value: u32,
     number: u64,
     names: &[u8; 16896],
-    out: &mut [u8; 4096],
+    out: &mut Out,
 ) -> Desk {
     let variable = variable_of(names, word);
     let state = desk.state;

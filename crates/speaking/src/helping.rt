@@ -1,9 +1,9 @@
 // Ways of answering, and help.
-use drawing::{put, put_error};
+use drawing::{Out, put, put_error};
 use papers::{Desk, failed, shown};
 
 // Numbers alone from now on.
-pub(crate) fn plain(desk: Desk, out: &mut [u8; 4096]) -> Desk {
+pub(crate) fn plain(desk: Desk, out: &mut Out) -> Desk {
     let used = put(out, desk.used, b"plain\n");
     let mut d = shown(desk, used);
     d.spoken = false;
@@ -11,20 +11,20 @@ pub(crate) fn plain(desk: Desk, out: &mut [u8; 4096]) -> Desk {
 }
 
 // Words too.
-pub(crate) fn spoken(desk: Desk, out: &mut [u8; 4096]) -> Desk {
+pub(crate) fn spoken(desk: Desk, out: &mut Out) -> Desk {
     let used = put(out, desk.used, b"spoken\n");
     let mut d = shown(desk, used);
     d.spoken = true;
     d
 }
 
-pub(crate) fn help(desk: Desk, out: &mut [u8; 4096]) -> Desk {
+pub(crate) fn help(desk: Desk, out: &mut Out) -> Desk {
     let used = sayings::put_help(out, desk.used);
     shown(desk, used)
 }
 
 // Help on a command, on refusals or on faults.
-pub(crate) fn help_on(desk: Desk, word: &[u8], number: u64, out: &mut [u8; 4096]) -> Desk {
+pub(crate) fn help_on(desk: Desk, word: &[u8], number: u64, out: &mut Out) -> Desk {
     if text::same(word, b"refusals") {
         let used = sayings::put_refusals(out, desk.used);
         return shown(desk, used);

@@ -1,5 +1,5 @@
 // Plans and files, with brakes: what is live is not dropped by the way, and what is not saved is told.
-use drawing::{put, put_byte, put_next, put_pair, unended};
+use drawing::{Out, put, put_byte, put_next, put_pair, unended};
 use machine::State;
 use papers::{Desk, braked, failed, is_braked, live_in, put_lost, refused, shown};
 use plan::Answer;
@@ -25,14 +25,14 @@ pub(crate) fn activities_of(state: State) -> usize {
     }
 }
 
-fn put_accepted(out: &mut [u8; 4096], used: usize, activities: usize) -> usize {
+fn put_accepted(out: &mut Out, used: usize, activities: usize) -> usize {
     let mut at = put(out, used, b" - accepted:");
     at = put_next(out, at, activities as u64);
     put(out, at, b" activities and arms\n")
 }
 
 // What the last answer came to, in words behind it, and what the plan is warned of: an error says it all.
-fn told(desk: Desk, bytes: &[u8; 8000], names: &[u8; 16896], out: &mut [u8; 4096]) -> Desk {
+fn told(desk: Desk, bytes: &[u8; 8000], names: &[u8; 16896], out: &mut Out) -> Desk {
     if 999 < desk.said {
         return desk;
     }
@@ -47,7 +47,7 @@ fn told(desk: Desk, bytes: &[u8; 8000], names: &[u8; 16896], out: &mut [u8; 4096
 }
 
 // A plan that is refused changes nothing: it is only said why.
-fn turned_down(desk: Desk, refusal: u32, place: usize, out: &mut [u8; 4096]) -> Desk {
+fn turned_down(desk: Desk, refusal: u32, place: usize, out: &mut Out) -> Desk {
     let mut at = put_pair(out, desk.used, b"plan", refusal as u64, place as u64);
     at = unended(out, at);
     at = put_refused(out, at, refusal);
@@ -92,7 +92,7 @@ pub(crate) fn plan(
     number: u64,
     bytes: &mut [u8; 8000],
     names: &mut [u8; 16896],
-    out: &mut [u8; 4096],
+    out: &mut Out,
 ) -> Desk {
     if is_braked(desk) {
         return braked(desk, number, b"plan", out);
@@ -121,7 +121,7 @@ pub(crate) fn mend(
     number: u64,
     bytes: &mut [u8; 8000],
     names: &mut [u8; 16896],
-    out: &mut [u8; 4096],
+    out: &mut Out,
 ) -> Desk {
     if is_braked(desk) {
         return braked(desk, number, b"mend", out);
@@ -130,7 +130,7 @@ pub(crate) fn mend(
     told(d, bytes, names, out)
 }
 
-fn put_what(desk: Desk, out: &mut [u8; 4096], used: usize) -> usize {
+fn put_what(desk: Desk, out: &mut Out, used: usize) -> usize {
     let state = desk.state;
     let orders = state.orders;
     let live = live_in(orders);
@@ -143,7 +143,7 @@ fn put_what(desk: Desk, out: &mut [u8; 4096], used: usize) -> usize {
 }
 
 // What a file holds, behind its numbers.
-fn filed(desk: Desk, front: &[u8], file: &[u8], out: &mut [u8; 4096]) -> Desk {
+fn filed(desk: Desk, front: &[u8], file: &[u8], out: &mut Out) -> Desk {
     if desk.said != 0 {
         return desk;
     }
@@ -162,7 +162,7 @@ pub(crate) fn save(
     file: &[u8],
     number: u64,
     names: &[u8; 16896],
-    out: &mut [u8; 4096],
+    out: &mut Out,
 ) -> Desk {
     let d = care::save(desk, file, number, names, out);
     filed(d, b" - saved in ", file, out)
@@ -174,7 +174,7 @@ pub(crate) fn page(
     file: &[u8],
     number: u64,
     names: &[u8; 16896],
-    out: &mut [u8; 4096],
+    out: &mut Out,
 ) -> Desk {
     let d = care::page(desk, file, number, names, out);
     if d.spoken {
@@ -190,7 +190,7 @@ pub(crate) fn open(
     number: u64,
     bytes: &mut [u8; 8000],
     names: &mut [u8; 16896],
-    out: &mut [u8; 4096],
+    out: &mut Out,
 ) -> Desk {
     if is_braked(desk) {
         return braked(desk, number, b"open", out);
@@ -210,7 +210,7 @@ pub fn written(
     number: u64,
     bytes: &mut [u8; 8000],
     names: &mut [u8; 16896],
-    out: &mut [u8; 4096],
+    out: &mut Out,
 ) -> Desk {
     let d = papers::write(desk, text, number, bytes, names, out);
     if !d.spoken {
@@ -245,14 +245,14 @@ pub fn is_at_risk(desk: Desk) -> bool {
 }
 
 // What would be lost.
-pub fn put_risk(desk: Desk, out: &mut [u8; 4096], used: usize) -> usize {
+pub fn put_risk(desk: Desk, out: &mut Out, used: usize) -> usize {
     let mut at = put(out, used, b"not saved: ");
     at = put_what(desk, out, at);
     at
 }
 
 // Ends, where nothing would be lost.
-pub(crate) fn quit(desk: Desk, number: u64, out: &mut [u8; 4096]) -> Desk {
+pub(crate) fn quit(desk: Desk, number: u64, out: &mut Out) -> Desk {
     if desk.spoken {
         if !desk.bold {
             if is_at_risk(desk) {

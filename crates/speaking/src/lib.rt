@@ -11,6 +11,7 @@ mod posting;
 mod viewing;
 
 use commands::{Alone, Command, Listed, Numbered};
+use drawing::Out;
 pub use keeping::{is_at_risk, put_risk, written};
 use papers::Desk;
 use phrases::{Phrase, What, part};
@@ -23,7 +24,7 @@ fn answer_alone(
     number: u64,
     bytes: &mut [u8; 8000],
     names: &mut [u8; 16896],
-    out: &mut [u8; 4096],
+    out: &mut Out,
 ) -> Desk {
     match what {
         Alone::Draw | Alone::Names => viewing::drawn(desk, line, number, bytes, names, out),
@@ -47,7 +48,7 @@ fn answer_numbered(
     number: u64,
     bytes: &mut [u8; 8000],
     names: &mut [u8; 16896],
-    out: &mut [u8; 4096],
+    out: &mut Out,
 ) -> Desk {
     match what {
         Numbered::Show => viewing::shown(desk, k, line, number, bytes, names, out),
@@ -64,7 +65,7 @@ fn answer_listed(
     from: usize,
     number: u64,
     names: &[u8; 16896],
-    out: &mut [u8; 4096],
+    out: &mut Out,
 ) -> Desk {
     match what {
         Listed::Post => posting::post(desk, line, from, number, names, out),
@@ -79,7 +80,7 @@ fn told(
     number: u64,
     bytes: &mut [u8; 8000],
     names: &mut [u8; 16896],
-    out: &mut [u8; 4096],
+    out: &mut Out,
 ) -> Desk {
     let c = commands::command_of(line);
     match c {
@@ -105,7 +106,7 @@ fn usual(
     number: u64,
     bytes: &mut [u8; 8000],
     names: &mut [u8; 16896],
-    out: &mut [u8; 4096],
+    out: &mut Out,
 ) -> Desk {
     if desk.spoken {
         return told(desk, line, number, bytes, names, out);
@@ -121,7 +122,7 @@ fn kept(
     number: u64,
     bytes: &mut [u8; 8000],
     names: &mut [u8; 16896],
-    out: &mut [u8; 4096],
+    out: &mut Out,
 ) -> Desk {
     match what {
         What::Plan => keeping::plan(desk, word, number, bytes, names, out),
@@ -140,7 +141,7 @@ fn said(
     line: &[u8],
     number: u64,
     names: &[u8; 16896],
-    out: &mut [u8; 4096],
+    out: &mut Out,
 ) -> Desk {
     let what = p.what;
     match what {
@@ -192,7 +193,7 @@ fn phrased(
     number: u64,
     bytes: &mut [u8; 8000],
     names: &mut [u8; 16896],
-    out: &mut [u8; 4096],
+    out: &mut Out,
 ) -> Desk {
     let what = p.what;
     if is_kept(what) {
@@ -228,7 +229,7 @@ pub fn answer(
     number: u64,
     bytes: &mut [u8; 8000],
     names: &mut [u8; 16896],
-    out: &mut [u8; 4096],
+    out: &mut Out,
 ) -> Desk {
     let p = phrases::phrase_of(line);
     let mut d = desk;

@@ -1,7 +1,7 @@
 // Steps and messages that go out, each told in words behind its numbers: step, run, go, collect and drop.
 use commands::Trouble;
 use console::{Numbers, numbers_of, rest_of};
-use drawing::{put, put_byte, put_number, put_pair, unended};
+use drawing::{Out, put, put_byte, put_number, put_pair, unended};
 use machine::{Collected, Message, State, Step, Tally};
 use order::Order;
 use papers::{Desk, changed, refused};
@@ -25,13 +25,7 @@ fn message_in(messages: [Message; 64], place: usize) -> Message {
 }
 
 // A step that was taken in this state.
-fn put_taken(
-    out: &mut [u8; 4096],
-    used: usize,
-    names: &[u8; 16896],
-    state: State,
-    x: Step,
-) -> usize {
+fn put_taken(out: &mut Out, used: usize, names: &[u8; 16896], state: State, x: Step) -> usize {
     let mut table = [0u32; LENGTH];
     let mut flags = [0u8; 16];
     let orders = state.orders;
@@ -52,13 +46,7 @@ fn put_taken(
     }
 }
 
-fn put_told(
-    out: &mut [u8; 4096],
-    used: usize,
-    names: &[u8; 16896],
-    state: State,
-    x: Step,
-) -> usize {
+fn put_told(out: &mut Out, used: usize, names: &[u8; 16896], state: State, x: Step) -> usize {
     let mut at = unended(out, used);
     if x.refusal != 0 {
         return put_refused(out, at, x.refusal);
@@ -69,7 +57,7 @@ fn put_told(
 }
 
 // Takes a step.
-pub(crate) fn step(desk: Desk, choice: u32, names: &[u8; 16896], out: &mut [u8; 4096]) -> Desk {
+pub(crate) fn step(desk: Desk, choice: u32, names: &[u8; 16896], out: &mut Out) -> Desk {
     let before = desk.state;
     let counted = desk.tally;
     let r = step::take_step(before, choice as usize, counted);
@@ -85,7 +73,7 @@ pub(crate) fn step(desk: Desk, choice: u32, names: &[u8; 16896], out: &mut [u8; 
 }
 
 // How many steps were taken, and why no more.
-fn put_count(out: &mut [u8; 4096], used: usize, r: Ran) -> usize {
+fn put_count(out: &mut Out, used: usize, r: Ran) -> usize {
     let mut at = unended(out, used);
     at = put(out, at, b" - ");
     at = put_number(out, at, r.taken as u64);
@@ -109,13 +97,7 @@ fn choice_at(choices: &[usize; 1000], i: usize) -> usize {
 }
 
 // One step more of a run, told; the state after it.
-fn put_turn(
-    out: &mut [u8; 4096],
-    used: usize,
-    names: &[u8; 16896],
-    state: State,
-    x: Step,
-) -> usize {
+fn put_turn(out: &mut Out, used: usize, names: &[u8; 16896], state: State, x: Step) -> usize {
     let mut at = put(out, used, b"  ");
     at = put_taken(out, at, names, state, x);
     put_byte(out, at, 10)
@@ -123,7 +105,7 @@ fn put_turn(
 
 // The steps of a run once more, each told.
 fn put_turns(
-    out: &mut [u8; 4096],
+    out: &mut Out,
     used: usize,
     names: &[u8; 16896],
     state: State,
@@ -166,7 +148,7 @@ fn ran(
     n: usize,
     budget: u32,
     names: &[u8; 16896],
-    out: &mut [u8; 4096],
+    out: &mut Out,
 ) -> Desk {
     let before = desk.state;
     let counted = desk.tally;
@@ -191,7 +173,7 @@ pub(crate) fn run(
     from: usize,
     number: u64,
     names: &[u8; 16896],
-    out: &mut [u8; 4096],
+    out: &mut Out,
 ) -> Desk {
     let mut numbers = [0u32; 1001];
     let n = numbers_of(line, from, 1002, &mut numbers);
@@ -208,19 +190,13 @@ pub(crate) fn run(
 }
 
 // Takes the first choice again and again, up to 1,000 times.
-pub(crate) fn go(desk: Desk, limit: u32, names: &[u8; 16896], out: &mut [u8; 4096]) -> Desk {
+pub(crate) fn go(desk: Desk, limit: u32, names: &[u8; 16896], out: &mut Out) -> Desk {
     let choices = [0usize; 1000];
     ran(desk, b"go", &choices, 1000, limit, names, out)
 }
 
 // A message that goes out, told.
-fn put_out(
-    out: &mut [u8; 4096],
-    used: usize,
-    names: &[u8; 16896],
-    state: State,
-    m: Message,
-) -> usize {
+fn put_out(out: &mut Out, used: usize, names: &[u8; 16896], state: State, m: Message) -> usize {
     let mut table = [0u32; LENGTH];
     let mut flags = [0u8; 16];
     let a = machine::limits::planned(state, &mut table, &mut flags);
@@ -238,7 +214,7 @@ fn put_out(
 }
 
 // Why none is handed out; a drop has its own sentence.
-fn put_kept(out: &mut [u8; 4096], used: usize, refusal: u32, dropped: bool) -> usize {
+fn put_kept(out: &mut Out, used: usize, refusal: u32, dropped: bool) -> usize {
     if dropped {
         return sayings::put_undropped(out, used, refusal);
     }
@@ -246,7 +222,7 @@ fn put_kept(out: &mut [u8; 4096], used: usize, refusal: u32, dropped: bool) -> u
 }
 
 fn put_handed(
-    out: &mut [u8; 4096],
+    out: &mut Out,
     used: usize,
     names: &[u8; 16896],
     state: State,
@@ -270,7 +246,7 @@ fn handed(
     c: Collected,
     dropped: bool,
     names: &[u8; 16896],
-    out: &mut [u8; 4096],
+    out: &mut Out,
 ) -> Desk {
     let before = desk.state;
     let m = c.message;
@@ -287,21 +263,21 @@ fn handed(
 }
 
 // Hands out the oldest message that leaves.
-pub(crate) fn collect(desk: Desk, names: &[u8; 16896], out: &mut [u8; 4096]) -> Desk {
+pub(crate) fn collect(desk: Desk, names: &[u8; 16896], out: &mut Out) -> Desk {
     let before = desk.state;
     let c = mail::collect(before);
     handed(desk, b"collect", c, false, names, out)
 }
 
 // Hands out the message at a place, whoever it is for.
-pub(crate) fn drop_at(desk: Desk, place: u32, names: &[u8; 16896], out: &mut [u8; 4096]) -> Desk {
+pub(crate) fn drop_at(desk: Desk, place: u32, names: &[u8; 16896], out: &mut Out) -> Desk {
     let before = desk.state;
     let c = mail::drop_at(before, place as usize);
     handed(desk, b"drop", c, true, names, out)
 }
 
 // Hands out all that go out, up to the refusal that says that there are no more.
-pub(crate) fn collect_all(desk: Desk, names: &[u8; 16896], out: &mut [u8; 4096]) -> Desk {
+pub(crate) fn collect_all(desk: Desk, names: &[u8; 16896], out: &mut Out) -> Desk {
     let mut d = desk;
     let mut left: usize = 65;
     while left > 0 {

@@ -1,6 +1,6 @@
 // A message that comes in, by names or numbers.
 use commands::Trouble;
-use drawing::{put, put_byte, put_next, put_refusal, unended};
+use drawing::{Out, put, put_byte, put_next, put_refusal, unended};
 use machine::{Message, State};
 use names::Stands;
 use papers::{Desk, changed, failed, refused};
@@ -97,13 +97,7 @@ fn reply_of(names: &[u8; 16896], line: &[u8], w: Word) -> Next {
 }
 
 // What becomes of a message that waits now.
-fn put_fate(
-    out: &mut [u8; 4096],
-    used: usize,
-    table: &Table,
-    activities: usize,
-    m: Message,
-) -> usize {
+fn put_fate(out: &mut Out, used: usize, table: &Table, activities: usize, m: Message) -> usize {
     if !telling::is_received(table, activities, m.partner) {
         return put(
             out,
@@ -117,13 +111,7 @@ fn put_fate(
     put(out, used, b"; no receive of the plan takes it")
 }
 
-fn put_waits(
-    out: &mut [u8; 4096],
-    used: usize,
-    names: &[u8; 16896],
-    state: State,
-    m: Message,
-) -> usize {
+fn put_waits(out: &mut Out, used: usize, names: &[u8; 16896], state: State, m: Message) -> usize {
     let mut table = [0u32; LENGTH];
     let mut flags = [0u8; 16];
     let a = machine::limits::planned(state, &mut table, &mut flags);
@@ -145,7 +133,7 @@ fn put_waits(
     }
 }
 
-fn posted(desk: Desk, m: Message, names: &[u8; 16896], out: &mut [u8; 4096]) -> Desk {
+fn posted(desk: Desk, m: Message, names: &[u8; 16896], out: &mut Out) -> Desk {
     let before = desk.state;
     let p = mail::post(before, m);
     let at = put_refusal(out, desk.used, b"post", p.refusal);
@@ -163,7 +151,7 @@ fn posted(desk: Desk, m: Message, names: &[u8; 16896], out: &mut [u8; 4096]) -> 
 }
 
 // A name that nobody has.
-fn unnamed(desk: Desk, number: u64, word: &[u8], out: &mut [u8; 4096]) -> Desk {
+fn unnamed(desk: Desk, number: u64, word: &[u8], out: &mut Out) -> Desk {
     let mut at = put(out, desk.used, b"error");
     at = put_next(out, at, number);
     at = put(out, at, b" no such name: ");
@@ -181,7 +169,7 @@ fn posted_with(
     numbers: &[u32; 1001],
     count: usize,
     names: &[u8; 16896],
-    out: &mut [u8; 4096],
+    out: &mut Out,
 ) -> Desk {
     if count < 2 {
         return console::wrong(desk, number, Trouble::Missing, out);
@@ -205,7 +193,7 @@ pub(crate) fn post(
     from: usize,
     number: u64,
     names: &[u8; 16896],
-    out: &mut [u8; 4096],
+    out: &mut Out,
 ) -> Desk {
     let mut numbers = [0u32; 1001];
     let reply = console::reply_in(line, from);

@@ -1,6 +1,6 @@
 // What changes nothing, told in words: the messages that wait, the tally, what is offered, orders, drawings and bytes.
 use super::keeping::activities_of;
-use drawing::{put, put_aligned, put_byte, put_next, put_number, put_refusal, unended};
+use drawing::{Out, put, put_aligned, put_byte, put_next, put_number, put_refusal, unended};
 use machine::{Message, State, Tally};
 use papers::{Desk, refused};
 use plan::Answer;
@@ -8,7 +8,7 @@ use plan::table::{LENGTH, Table};
 use sayings::put_refused;
 
 // A state without a plan has no such thing.
-fn planless(desk: Desk, word: &[u8], out: &mut [u8; 4096]) -> Desk {
+fn planless(desk: Desk, word: &[u8], out: &mut Out) -> Desk {
     let mut at = put_refusal(out, desk.used, word, 17);
     at = unended(out, at);
     at = put_refused(out, at, 17);
@@ -28,7 +28,7 @@ pub(crate) fn planned(
     number: u64,
     bytes: &mut [u8; 8000],
     names: &mut [u8; 16896],
-    out: &mut [u8; 4096],
+    out: &mut Out,
 ) -> Desk {
     if has_plan(desk) {
         return console::answer(desk, line, number, bytes, names, out);
@@ -43,7 +43,7 @@ pub(crate) fn drawn(
     number: u64,
     bytes: &mut [u8; 8000],
     names: &mut [u8; 16896],
-    out: &mut [u8; 4096],
+    out: &mut Out,
 ) -> Desk {
     let d = console::answer(desk, line, number, bytes, names, out);
     if has_plan(desk) {
@@ -62,7 +62,7 @@ pub(crate) fn shown(
     number: u64,
     bytes: &mut [u8; 8000],
     names: &mut [u8; 16896],
-    out: &mut [u8; 4096],
+    out: &mut Out,
 ) -> Desk {
     let d = drawn(desk, line, number, bytes, names, out);
     if d.said != 0 {
@@ -78,7 +78,7 @@ pub(crate) fn shown(
     refused(d, used, 16)
 }
 
-fn put_choices(out: &mut [u8; 4096], used: usize, many: usize, held: bool) -> usize {
+fn put_choices(out: &mut Out, used: usize, many: usize, held: bool) -> usize {
     let mut at = unended(out, used);
     at = put(out, at, b" - ");
     at = put_number(out, at, many as u64);
@@ -100,7 +100,7 @@ pub(crate) fn offer(
     number: u64,
     bytes: &mut [u8; 8000],
     names: &mut [u8; 16896],
-    out: &mut [u8; 4096],
+    out: &mut Out,
 ) -> Desk {
     if !has_plan(desk) {
         return planless(desk, b"offer", out);
@@ -112,7 +112,7 @@ pub(crate) fn offer(
     papers::shown(d, used)
 }
 
-fn put_counts(out: &mut [u8; 4096], used: usize, tally: Tally) -> usize {
+fn put_counts(out: &mut Out, used: usize, tally: Tally) -> usize {
     let mut at = unended(out, used);
     at = put(out, at, b" -");
     at = put_next(out, at, tally.started as u64);
@@ -127,7 +127,7 @@ fn put_counts(out: &mut [u8; 4096], used: usize, tally: Tally) -> usize {
     put(out, at, b" left\n")
 }
 
-pub(crate) fn tally(desk: Desk, out: &mut [u8; 4096]) -> Desk {
+pub(crate) fn tally(desk: Desk, out: &mut Out) -> Desk {
     let tally = desk.tally;
     let at = console::put_tally(out, desk.used, tally);
     let used = put_counts(out, at, tally);
@@ -135,13 +135,7 @@ pub(crate) fn tally(desk: Desk, out: &mut [u8; 4096]) -> Desk {
 }
 
 // What becomes of a message.
-fn put_fate(
-    out: &mut [u8; 4096],
-    used: usize,
-    table: &Table,
-    activities: usize,
-    m: Message,
-) -> usize {
+fn put_fate(out: &mut Out, used: usize, table: &Table, activities: usize, m: Message) -> usize {
     if !telling::is_received(table, activities, m.partner) {
         return put(out, used, b"; leaves by collect\n");
     }
@@ -153,7 +147,7 @@ fn put_fate(
 
 // A message that waits: its place, its numbers, and words.
 fn put_one(
-    out: &mut [u8; 4096],
+    out: &mut Out,
     used: usize,
     names: &[u8; 16896],
     table: &Table,
@@ -170,7 +164,7 @@ fn put_one(
 }
 
 fn put_all(
-    out: &mut [u8; 4096],
+    out: &mut Out,
     used: usize,
     names: &[u8; 16896],
     table: &Table,
@@ -190,7 +184,7 @@ fn put_all(
     put_byte(out, at, 10)
 }
 
-fn put_waiting(out: &mut [u8; 4096], used: usize, names: &[u8; 16896], state: State) -> usize {
+fn put_waiting(out: &mut Out, used: usize, names: &[u8; 16896], state: State) -> usize {
     let mut table = [0u32; LENGTH];
     let mut flags = [0u8; 16];
     let messages = state.messages;
@@ -217,7 +211,7 @@ fn put_waiting(out: &mut [u8; 4096], used: usize, names: &[u8; 16896], state: St
 }
 
 // The messages that wait, a line for each, and a blank line.
-pub(crate) fn waiting(desk: Desk, names: &[u8; 16896], out: &mut [u8; 4096]) -> Desk {
+pub(crate) fn waiting(desk: Desk, names: &[u8; 16896], out: &mut Out) -> Desk {
     let state = desk.state;
     let mut at = put(out, desk.used, b"waiting");
     at = put_next(out, at, state.waiting as u64);

@@ -1,5 +1,5 @@
 // A message by the names of the plan that takes it or sent it.
-use drawing::{entry, put, put_byte, put_number, put_operation, put_partner, put_variable};
+use drawing::{Out, entry, put, put_byte, put_number, put_operation, put_partner, put_variable};
 use machine::Message;
 use plan::kind;
 use plan::table::{COUNT, KIND, OPERATION, PARTNER, Table};
@@ -118,7 +118,7 @@ fn variable_at(
 
 // Value i of a message, by its variable where it has one.
 fn put_value(
-    out: &mut [u8; 4096],
+    out: &mut Out,
     used: usize,
     names: &[u8; 16896],
     variable: u32,
@@ -135,7 +135,7 @@ fn put_value(
 
 // Operation and partner, where the partner speaks to us or we to it.
 pub fn put_exchange(
-    out: &mut [u8; 4096],
+    out: &mut Out,
     used: usize,
     names: &[u8; 16896],
     receiving: bool,
@@ -152,7 +152,7 @@ pub fn put_exchange(
 }
 
 fn put_values(
-    out: &mut [u8; 4096],
+    out: &mut Out,
     used: usize,
     names: &[u8; 16896],
     table: &Table,
@@ -185,7 +185,7 @@ fn put_values(
 
 // The value whose variable stands in this field of the rows.
 fn put_place(
-    out: &mut [u8; 4096],
+    out: &mut Out,
     used: usize,
     names: &[u8; 16896],
     table: &Table,
@@ -232,19 +232,14 @@ fn is_reply_told(table: &Table, activities: usize, m: Message) -> bool {
 }
 
 // Behind a message, whom to reply to.
-pub(crate) fn put_reply(
-    out: &mut [u8; 4096],
-    used: usize,
-    names: &[u8; 16896],
-    reply: u32,
-) -> usize {
+pub(crate) fn put_reply(out: &mut Out, used: usize, names: &[u8; 16896], reply: u32) -> usize {
     let at = put(out, used, b"; reply to ");
     put_partner(out, at, names, reply)
 }
 
 // A message: operation, partner and values, and whom to reply to, where that matters.
 pub fn put_letter(
-    out: &mut [u8; 4096],
+    out: &mut Out,
     used: usize,
     names: &[u8; 16896],
     table: &Table,

@@ -1,6 +1,6 @@
 // The tuple of a send or a receive with the values that an order knows.
 use super::letters::{put_exchange, put_reply};
-use drawing::{entry, put, put_byte, put_number, put_operation, put_variable};
+use drawing::{Out, entry, put, put_byte, put_number, put_operation, put_variable};
 use order::fault;
 use plan::kind;
 use plan::table::{COUNT, KIND, OPERATION, PARTNER, Table, VARIABLE, VARIABLES};
@@ -8,7 +8,7 @@ use sayings::put_by_fault;
 
 // A variable, with its value where it is bound and asked for.
 fn put_one(
-    out: &mut [u8; 4096],
+    out: &mut Out,
     used: usize,
     names: &[u8; 16896],
     wanted: bool,
@@ -28,7 +28,7 @@ fn wide(value: u32) -> u64 {
 }
 
 fn put_bound(
-    out: &mut [u8; 4096],
+    out: &mut Out,
     used: usize,
     bound: &[u8; 16],
     values: &[u32; 16],
@@ -76,7 +76,7 @@ fn is_wanted(sent: bool, flags: &[u8; 16], bound: &[u8; 16], variable: u32) -> b
 
 // The variable in a field of row n.
 fn put_member(
-    out: &mut [u8; 4096],
+    out: &mut Out,
     used: usize,
     names: &[u8; 16896],
     table: &Table,
@@ -105,7 +105,7 @@ fn put_member(
     used
 }
 
-fn put_front(out: &mut [u8; 4096], used: usize, i: usize) -> usize {
+fn put_front(out: &mut Out, used: usize, i: usize) -> usize {
     if i == 0 {
         return put(out, used, b": ");
     }
@@ -114,7 +114,7 @@ fn put_front(out: &mut [u8; 4096], used: usize, i: usize) -> usize {
 
 // Operation and partner of a send whose partner a variable holds: that partner, where there is one, else the variable and what is in it.
 fn put_to_held(
-    out: &mut [u8; 4096],
+    out: &mut Out,
     used: usize,
     names: &[u8; 16896],
     table: &Table,
@@ -137,7 +137,7 @@ fn put_to_held(
 
 // Operation and partner of row n, a send or, where it is not `sent`, a receive or an arm.
 fn put_whom(
-    out: &mut [u8; 4096],
+    out: &mut Out,
     used: usize,
     names: &[u8; 16896],
     table: &Table,
@@ -160,13 +160,7 @@ fn put_whom(
 }
 
 // Whom the send in row n says to reply to, where it names one; and where the receive in row n stores whom to reply to.
-fn put_replying(
-    out: &mut [u8; 4096],
-    used: usize,
-    names: &[u8; 16896],
-    table: &Table,
-    n: usize,
-) -> usize {
+fn put_replying(out: &mut Out, used: usize, names: &[u8; 16896], table: &Table, n: usize) -> usize {
     match entry(table, n, KIND) {
         kind::HELD_SEND => {
             let reply = entry(table, n, PARTNER);
@@ -185,7 +179,7 @@ fn put_replying(
 
 // Operation, partner and tuple of row n, with the values of an order, and what it has to do with whom to reply to.
 fn put_tuple(
-    out: &mut [u8; 4096],
+    out: &mut Out,
     used: usize,
     names: &[u8; 16896],
     table: &Table,
@@ -221,12 +215,7 @@ pub fn fault_of(table: &Table, n: usize, bound: &[u8; 16], values: &[u32; 16]) -
 }
 
 // Behind what a send sends or would send, its fault. A variable that is not bound is told where it stands.
-pub fn put_sending_fault(
-    out: &mut [u8; 4096],
-    used: usize,
-    names: &[u8; 16896],
-    cause: u8,
-) -> usize {
+pub fn put_sending_fault(out: &mut Out, used: usize, names: &[u8; 16896], cause: u8) -> usize {
     if cause == fault::NO_SUCH_PARTNER {
         return put_by_fault(out, used, names, cause);
     }
@@ -235,7 +224,7 @@ pub fn put_sending_fault(
 
 // What the send in row n sends.
 pub fn put_sent(
-    out: &mut [u8; 4096],
+    out: &mut Out,
     used: usize,
     names: &[u8; 16896],
     table: &Table,
@@ -249,7 +238,7 @@ pub fn put_sent(
 
 // What the receive or arm in row n asks for: of what is for correlation the value that is known.
 pub fn put_known(
-    out: &mut [u8; 4096],
+    out: &mut Out,
     used: usize,
     names: &[u8; 16896],
     table: &Table,

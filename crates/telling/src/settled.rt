@@ -1,7 +1,7 @@
 // The raises behind a step's own deed: while it leaves two receives or arms of its order open for one thing, a fault is raised in place of the
 // higher-numbered. The order that the step leaves has no such pair any more, so what was done is done here once more, from the order before the step.
 use checking::is_same_thing;
-use drawing::{entry, put, put_next};
+use drawing::{Out, entry, put, put_next};
 use order::{End, Next, Order};
 use plan::kind;
 use plan::table::{KIND, Table};
@@ -80,7 +80,7 @@ fn lower_of(table: &Table, picks: &[usize; 256], marks: &[u8; 256], k: usize) ->
 }
 
 // A receive or an arm by its number.
-fn put_row(out: &mut [u8; 4096], used: usize, table: &Table, n: usize) -> usize {
+fn put_row(out: &mut Out, used: usize, table: &Table, n: usize) -> usize {
     let mut at = used;
     if entry(table, n, KIND) == kind::ARM {
         at = put(out, at, b"arm");
@@ -91,7 +91,7 @@ fn put_row(out: &mut [u8; 4096], used: usize, table: &Table, n: usize) -> usize 
 }
 
 fn put_raise(
-    out: &mut [u8; 4096],
+    out: &mut Out,
     used: usize,
     table: &Table,
     picks: &[usize; 256],
@@ -107,7 +107,7 @@ fn put_raise(
 
 // Each such raise behind an order that moved to this. A row faults once in a step at most: there are never more than 256.
 pub(crate) fn put_raises(
-    out: &mut [u8; 4096],
+    out: &mut Out,
     used: usize,
     table: &Table,
     activities: usize,

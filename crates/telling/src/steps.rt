@@ -2,7 +2,7 @@
 use super::letters::put_letter;
 use super::ready::{SENDS, fault_of, put_sending_fault, put_sent};
 use super::settled::{deed_of, put_raises};
-use drawing::{entry, put, put_fault_name, put_next, put_scope, put_variable};
+use drawing::{Out, entry, put, put_fault_name, put_next, put_scope, put_variable};
 use machine::{Message, Step};
 use order::{End, Order, Worth};
 use plan::kind;
@@ -10,19 +10,13 @@ use plan::table::{EXPRESSION, KIND, NUMBER, Table, VARIABLE};
 use sayings::put_by_fault;
 
 // An end by a fault.
-fn put_ended_by(
-    out: &mut [u8; 4096],
-    used: usize,
-    names: &[u8; 16896],
-    words: &[u8],
-    fault: u8,
-) -> usize {
+fn put_ended_by(out: &mut Out, used: usize, names: &[u8; 16896], words: &[u8], fault: u8) -> usize {
     let at = put(out, used, words);
     put_by_fault(out, at, names, fault)
 }
 
 // How an order ended, if it did, and by which fault, where it was by one.
-fn put_end(out: &mut [u8; 4096], used: usize, names: &[u8; 16896], end: End, fault: u8) -> usize {
+fn put_end(out: &mut Out, used: usize, names: &[u8; 16896], end: End, fault: u8) -> usize {
     match end {
         End::None => used,
         End::Well => put(out, used, b"; it ended well"),
@@ -33,7 +27,7 @@ fn put_end(out: &mut [u8; 4096], used: usize, names: &[u8; 16896], end: End, fau
 }
 
 // Whose step it was; an order that had not begun starts with it.
-fn put_whose(out: &mut [u8; 4096], used: usize, slot: usize, root: u8) -> usize {
+fn put_whose(out: &mut Out, used: usize, slot: usize, root: u8) -> usize {
     let mut at = put(out, used, b"order");
     at = put_next(out, at, slot as u64);
     if root == 0 {
@@ -43,7 +37,7 @@ fn put_whose(out: &mut [u8; 4096], used: usize, slot: usize, root: u8) -> usize 
 }
 
 fn put_took(
-    out: &mut [u8; 4096],
+    out: &mut Out,
     used: usize,
     names: &[u8; 16896],
     table: &Table,
@@ -60,7 +54,7 @@ fn put_took(
 
 // A send, or the fault that it is.
 fn put_send(
-    out: &mut [u8; 4096],
+    out: &mut Out,
     used: usize,
     names: &[u8; 16896],
     table: &Table,
@@ -81,13 +75,7 @@ fn put_send(
     put_sending_fault(out, at, names, cause)
 }
 
-fn put_set(
-    out: &mut [u8; 4096],
-    used: usize,
-    names: &[u8; 16896],
-    variable: u32,
-    w: Worth,
-) -> usize {
+fn put_set(out: &mut Out, used: usize, names: &[u8; 16896], variable: u32, w: Worth) -> usize {
     match w {
         Worth::Value { value } => {
             let mut at = put(out, used, b"set ");
@@ -104,7 +92,7 @@ fn put_set(
 }
 
 fn put_chosen(
-    out: &mut [u8; 4096],
+    out: &mut Out,
     used: usize,
     names: &[u8; 16896],
     w: Worth,
@@ -129,20 +117,14 @@ fn worth_of(table: &Table, n: usize, order: Order) -> Worth {
     order::evaluation::evaluate_at(table, order, entry(table, n, EXPRESSION) as usize, 8)
 }
 
-fn put_closed(
-    out: &mut [u8; 4096],
-    used: usize,
-    names: &[u8; 16896],
-    table: &Table,
-    n: usize,
-) -> usize {
+fn put_closed(out: &mut Out, used: usize, names: &[u8; 16896], table: &Table, n: usize) -> usize {
     let at = put(out, used, b"closed ");
     put_scope(out, at, names, table, n)
 }
 
 // A scope with no undo part.
 fn put_handed_on(
-    out: &mut [u8; 4096],
+    out: &mut Out,
     used: usize,
     names: &[u8; 16896],
     table: &Table,
@@ -153,20 +135,14 @@ fn put_handed_on(
 }
 
 // A raise with a number of its own.
-fn put_raised(
-    out: &mut [u8; 4096],
-    used: usize,
-    names: &[u8; 16896],
-    table: &Table,
-    n: usize,
-) -> usize {
+fn put_raised(out: &mut Out, used: usize, names: &[u8; 16896], table: &Table, n: usize) -> usize {
     let at = put(out, used, b"raised ");
     put_fault_name(out, at, names, b"fault ", entry(table, n, NUMBER))
 }
 
 // What a step did, by its activity.
 fn put_did(
-    out: &mut [u8; 4096],
+    out: &mut Out,
     used: usize,
     names: &[u8; 16896],
     table: &Table,
@@ -215,7 +191,7 @@ fn put_did(
 
 // The raises behind a step, where it left two open for one thing.
 fn put_behind(
-    out: &mut [u8; 4096],
+    out: &mut Out,
     used: usize,
     table: &Table,
     activities: usize,
@@ -231,7 +207,7 @@ fn put_behind(
 
 // A step that was taken, where `order` stood in its slot before it and `m` is the message at its place.
 pub fn put_step(
-    out: &mut [u8; 4096],
+    out: &mut Out,
     used: usize,
     names: &[u8; 16896],
     table: &Table,

@@ -2,9 +2,9 @@
 // Standard input has a vector on each line: bytes in hexadecimal, refusal, place, activities; `#` starts a comment.
 #![tactic(auto)]
 
-use libc::{STDIN_FILENO, STDOUT_FILENO};
 use plan::Answer;
 use plan::table::LENGTH;
+use std::io::Read;
 use text::{Decimal, Hex, Line};
 
 // What a vector wants, or what reading its bytes gave.
@@ -176,24 +176,32 @@ fn judged(line: &[u8]) -> Verdict {
     }
 }
 
-fn print_outcome(o: Outcome) {
-    io::print_decimal(STDOUT_FILENO, o.refusal);
-    io::write_all(STDOUT_FILENO, b" ");
-    io::print_decimal(STDOUT_FILENO, o.place);
-    io::write_all(STDOUT_FILENO, b" ");
-    io::print_decimal(STDOUT_FILENO, o.activities);
-    io::write_all(STDOUT_FILENO, b"\n");
+fn put(rt: HostRuntime, text: &[u8]) {
+    let _ = rt.write_all(text);
+}
+
+fn put_number(rt: HostRuntime, number: u64) {
+    let _ = rt.print(number);
+}
+
+fn print_outcome(rt: HostRuntime, o: Outcome) {
+    put_number(rt, o.refusal);
+    put(rt, b" ");
+    put_number(rt, o.place);
+    put(rt, b" ");
+    put_number(rt, o.activities);
+    put(rt, b"\n");
 }
 
 // A line that is no vector counts as one that disagrees.
-fn print_trouble(number: u64) {
-    io::write_all(STDOUT_FILENO, b"line ");
-    io::print_decimal(STDOUT_FILENO, number);
-    io::write_all(STDOUT_FILENO, b" is no vector\n");
+fn print_trouble(rt: HostRuntime, number: u64) {
+    put(rt, b"line ");
+    put_number(rt, number);
+    put(rt, b" is no vector\n");
 }
 
 // A line that has ended, without its line end.
-fn line_judged(t: Tally, line: &[u8]) -> Tally {
+fn line_judged(rt: HostRuntime, t: Tally, line: &[u8]) -> Tally {
     let lines = more(t.lines);
     let v = judged(line);
     match v {
@@ -212,9 +220,9 @@ fn line_judged(t: Tally, line: &[u8]) -> Tally {
             open: t.open,
         },
         Verdict::Differs { got } => {
-            io::write_all(STDOUT_FILENO, line);
-            io::write_all(STDOUT_FILENO, b": got ");
-            print_outcome(got);
+            put(rt, line);
+            put(rt, b": got ");
+            print_outcome(rt, got);
             Tally {
                 lines,
                 vectors: more(t.vectors),
@@ -224,7 +232,7 @@ fn line_judged(t: Tally, line: &[u8]) -> Tally {
             }
         }
         Verdict::Unreadable => {
-            print_trouble(lines);
+            print_trouble(rt, lines);
             Tally {
                 lines,
                 vectors: more(t.vectors),
@@ -236,9 +244,9 @@ fn line_judged(t: Tally, line: &[u8]) -> Tally {
     }
 }
 
-fn long_line(t: Tally) -> Tally {
+fn long_line(rt: HostRuntime, t: Tally) -> Tally {
     let lines = more(t.lines);
-    print_trouble(lines);
+    print_trouble(rt, lines);
     Tally {
         lines,
         vectors: more(t.vectors),
@@ -249,34 +257,34 @@ fn long_line(t: Tally) -> Tally {
 }
 
 // The bytes kept of a line that has ended.
-fn ended_at(t: Tally, kept: &[u8]) -> Tally {
+fn ended_at(rt: HostRuntime, t: Tally, kept: &[u8]) -> Tally {
     let l = text::line_of(kept);
     match l {
-        Line::Long => long_line(t),
+        Line::Long => long_line(rt, t),
         Line::Text { length } => {
             if length <= kept.len() {
-                return line_judged(t, &kept[0..length]);
+                return line_judged(rt, t, &kept[0..length]);
             }
             t
         }
     }
 }
 
-fn ended_of(t: Tally, line: &[u8]) -> Tally {
+fn ended_of(rt: HostRuntime, t: Tally, line: &[u8]) -> Tally {
     let length = t.length;
     if length <= line.len() {
-        return ended_at(t, &line[0..length]);
+        return ended_at(rt, t, &line[0..length]);
     }
     t
 }
 
-fn ended(t: Tally, line: &[u8; 16002]) -> Tally {
-    ended_of(t, line)
+fn ended(rt: HostRuntime, t: Tally, line: &[u8; 16002]) -> Tally {
+    ended_of(rt, t, line)
 }
 
-fn byte(t: Tally, b: u8, line: &mut [u8; 16002]) -> Tally {
+fn byte(rt: HostRuntime, t: Tally, b: u8, line: &mut [u8; 16002]) -> Tally {
     if b == 10 {
-        return ended(t, line);
+        return ended(rt, t, line);
     }
     let length = text::keep(line, t.length, b);
     Tally {
@@ -288,33 +296,33 @@ fn byte(t: Tally, b: u8, line: &mut [u8; 16002]) -> Tally {
     }
 }
 
-fn feed(t: Tally, chunk: &[u8], line: &mut [u8; 16002]) -> Tally {
+fn feed(rt: HostRuntime, t: Tally, chunk: &[u8], line: &mut [u8; 16002]) -> Tally {
     let mut state = t;
     let mut i = 0;
     while i < chunk.len() {
-        state = byte(state, chunk[i], line);
+        state = byte(rt, state, chunk[i], line);
         i += 1;
     }
     state
 }
 
 // Reads once. At the end of the input a last line may have no line end.
-fn turn(t: Tally, line: &mut [u8; 16002]) -> Tally {
-    let mut chunk = io::buffer();
-    let got = libc::read(STDIN_FILENO, &mut chunk);
-    let n = io::count(got, &chunk);
+fn turn(rt: HostRuntime, t: Tally, line: &mut [u8; 16002]) -> Tally {
+    let mut chunk = [0u8; 4096];
+    let mut stdin = rt.stdin();
+    let n = stdin.read(&mut chunk).unwrap_or(0);
     if n == 0 {
         let mut last = t;
         if 0 < t.length {
-            last = ended(t, line);
+            last = ended(rt, t, line);
         }
         last.open = false;
         return last;
     }
-    feed(t, &chunk[..n], line)
+    feed(rt, t, &chunk[..n], line)
 }
 
-fn read_all(t: Tally, line: &mut [u8; 16002]) -> Tally {
+fn read_all(rt: HostRuntime, t: Tally, line: &mut [u8; 16002]) -> Tally {
     let mut state = t;
     // nothing says that the input ends, so the turns are counted down from a number that no run uses up
     let mut turns = u64::MAX;
@@ -322,13 +330,13 @@ fn read_all(t: Tally, line: &mut [u8; 16002]) -> Tally {
         if !state.open {
             return state;
         }
-        state = turn(state, line);
+        state = turn(rt, state, line);
         turns -= 1;
     }
     state
 }
 
-fn main() {
+fn main(rt: HostRuntime) {
     let mut line = [0u8; 16002];
     let start = Tally {
         lines: 0,
@@ -337,9 +345,9 @@ fn main() {
         length: 0,
         open: true,
     };
-    let t = read_all(start, &mut line);
-    io::print_decimal(STDOUT_FILENO, t.vectors);
-    io::write_all(STDOUT_FILENO, b" plans read, ");
-    io::print_decimal(STDOUT_FILENO, t.agree);
-    io::write_all(STDOUT_FILENO, b" agree\n");
+    let t = read_all(rt, start, &mut line);
+    put_number(rt, t.vectors);
+    put(rt, b" plans read, ");
+    put_number(rt, t.agree);
+    put(rt, b" agree\n");
 }

@@ -8,7 +8,7 @@ mod rows;
 pub mod strays;
 mod undo;
 
-use drawing::{put, put_byte, put_next, put_variable};
+use drawing::{Out, put, put_byte, put_next, put_variable};
 use machine::State;
 use order::Order;
 use plan::Answer;
@@ -18,7 +18,7 @@ pub use undo::put_undone;
 
 // A variable that is for correlation, where it is bound.
 fn put_key(
-    out: &mut [u8; 4096],
+    out: &mut Out,
     used: usize,
     names: &[u8; 16896],
     flag: u8,
@@ -38,7 +38,7 @@ fn put_key(
 
 // What an order is known by: its variables for correlation.
 fn put_keys(
-    out: &mut [u8; 4096],
+    out: &mut Out,
     used: usize,
     names: &[u8; 16896],
     flags: &[u8; 16],
@@ -63,7 +63,7 @@ fn put_keys(
 
 // What an order is called: by its slot, and what it is known by.
 pub fn put_called(
-    out: &mut [u8; 4096],
+    out: &mut Out,
     used: usize,
     names: &[u8; 16896],
     flags: &[u8; 16],
@@ -79,7 +79,7 @@ pub fn put_called(
 
 // What an order does and waits for, and, where its root faulted, by which fault: a line each.
 pub fn put_doings(
-    out: &mut [u8; 4096],
+    out: &mut Out,
     used: usize,
     names: &[u8; 16896],
     table: &Table,
@@ -97,7 +97,7 @@ pub fn put_doings(
 
 // One order.
 fn put_order(
-    out: &mut [u8; 4096],
+    out: &mut Out,
     used: usize,
     names: &[u8; 16896],
     table: &Table,
@@ -128,7 +128,7 @@ fn is_asked(only: usize, slot: usize, root: u8) -> bool {
 }
 
 fn put_orders(
-    out: &mut [u8; 4096],
+    out: &mut Out,
     used: usize,
     names: &[u8; 16896],
     table: &Table,
@@ -155,7 +155,7 @@ fn put_orders(
 
 // The orders, then the messages; a blank line.
 fn put_all(
-    out: &mut [u8; 4096],
+    out: &mut Out,
     used: usize,
     names: &[u8; 16896],
     table: &Table,
@@ -178,7 +178,7 @@ fn put_all(
 
 // Why the order in a slot stands as it does, or all of them where the slot is 16, in a state that has a plan.
 pub fn put_why(
-    out: &mut [u8; 4096],
+    out: &mut Out,
     used: usize,
     names: &[u8; 16896],
     state: State,
@@ -202,7 +202,7 @@ pub fn put_why(
 
 // Row n of the order in a slot, where its step is held.
 fn put_held_row(
-    out: &mut [u8; 4096],
+    out: &mut Out,
     used: usize,
     names: &[u8; 16896],
     table: &Table,
@@ -222,7 +222,7 @@ fn put_held_row(
 }
 
 fn put_held_rows(
-    out: &mut [u8; 4096],
+    out: &mut Out,
     used: usize,
     names: &[u8; 16896],
     table: &Table,
@@ -246,7 +246,7 @@ fn put_held_rows(
 
 // What is held, a line each: the steps of live orders, then the messages that would start one.
 pub fn put_held(
-    out: &mut [u8; 4096],
+    out: &mut Out,
     used: usize,
     names: &[u8; 16896],
     table: &Table,

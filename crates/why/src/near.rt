@@ -1,5 +1,5 @@
 // The messages that wait beside what a receive asks for: those that fit, and those that fit but for one value.
-use drawing::{entry, put, put_byte, put_next, put_variable};
+use drawing::{Out, entry, put, put_byte, put_next, put_variable};
 use machine::Message;
 use plan::table::{COUNT, OPERATION, PARTNER, Table, VARIABLES};
 
@@ -63,7 +63,7 @@ fn is_for(table: &Table, n: usize, m: Message) -> bool {
     m.count == entry(table, n, COUNT)
 }
 
-fn put_number_of(out: &mut [u8; 4096], used: usize, j: usize) -> usize {
+fn put_number_of(out: &mut Out, used: usize, j: usize) -> usize {
     let at = put(out, used, b"    message");
     put_next(out, at, j as u64)
 }
@@ -77,7 +77,7 @@ fn less_one(asked: u64) -> u64 {
 
 // The one value that is another.
 fn put_miss(
-    out: &mut [u8; 4096],
+    out: &mut Out,
     used: usize,
     names: &[u8; 16896],
     table: &Table,
@@ -99,7 +99,7 @@ fn put_miss(
 
 // Message j beside the receive or arm in row n.
 fn put_one(
-    out: &mut [u8; 4096],
+    out: &mut Out,
     used: usize,
     names: &[u8; 16896],
     table: &Table,
@@ -125,7 +125,7 @@ fn put_one(
 
 // All of them beside row n.
 pub(crate) fn put_near(
-    out: &mut [u8; 4096],
+    out: &mut Out,
     used: usize,
     names: &[u8; 16896],
     table: &Table,

@@ -1,7 +1,7 @@
 // What an order does and waits for, a line for each activity that awaits its step.
 use super::holding::is_held;
 use super::near::put_near;
-use drawing::{entry, is_scope, put, put_activity, put_byte, put_next, put_scope};
+use drawing::{Out, entry, is_scope, put, put_activity, put_byte, put_next, put_scope};
 use machine::State;
 use order::{Order, fault};
 use plan::kind;
@@ -16,7 +16,7 @@ fn mark_at(marks: &[u8; 256], n: usize) -> u8 {
     0
 }
 
-fn put_place(out: &mut [u8; 4096], used: usize, n: usize) -> usize {
+fn put_place(out: &mut Out, used: usize, n: usize) -> usize {
     let mut at = put(out, used, b" (activity");
     at = put_next(out, at, n as u64);
     put(out, at, b")")
@@ -24,7 +24,7 @@ fn put_place(out: &mut [u8; 4096], used: usize, n: usize) -> usize {
 
 // A receive or an arm that is open, and the messages beside it.
 fn put_open(
-    out: &mut [u8; 4096],
+    out: &mut Out,
     used: usize,
     names: &[u8; 16896],
     table: &Table,
@@ -47,7 +47,7 @@ fn put_open(
 
 // A send that awaits its step: it may be held while 64 messages wait, and is a fault where a variable is not bound, or holds a partner that there is not.
 fn put_send(
-    out: &mut [u8; 4096],
+    out: &mut Out,
     used: usize,
     names: &[u8; 16896],
     table: &Table,
@@ -73,7 +73,7 @@ fn put_send(
 }
 
 // Row k and its rival, by their numbers.
-fn put_rivals(out: &mut [u8; 4096], used: usize, k: usize, rival: usize) -> usize {
+fn put_rivals(out: &mut Out, used: usize, k: usize, rival: usize) -> usize {
     let mut at = put(out, used, b"; activities");
     at = put_next(out, at, rival as u64);
     at = put(out, at, b" and");
@@ -82,7 +82,7 @@ fn put_rivals(out: &mut [u8; 4096], used: usize, k: usize, rival: usize) -> usiz
 }
 
 // Of a conflicting receive, the first two that are for one thing and may have made the root fault.
-fn put_conflict(out: &mut [u8; 4096], used: usize, table: &Table, cause: u8) -> usize {
+fn put_conflict(out: &mut Out, used: usize, table: &Table, cause: u8) -> usize {
     if cause != fault::CONFLICTING_RECEIVE {
         return used;
     }
@@ -95,7 +95,7 @@ fn put_conflict(out: &mut [u8; 4096], used: usize, table: &Table, cause: u8) -> 
 
 // The root, which has this mark: where it has faulted, by which fault.
 pub(crate) fn put_root_faulted(
-    out: &mut [u8; 4096],
+    out: &mut Out,
     used: usize,
     names: &[u8; 16896],
     table: &Table,
@@ -119,7 +119,7 @@ fn may_be_contested(choice: u8) -> bool {
 }
 
 // Where the mark of a scope says that two receives were open for one thing, or does not say what it was, the first two in scope n for which that may be.
-fn put_contested(out: &mut [u8; 4096], used: usize, table: &Table, n: usize, choice: u8) -> usize {
+fn put_contested(out: &mut Out, used: usize, table: &Table, n: usize, choice: u8) -> usize {
     if !may_be_contested(choice) {
         return used;
     }
@@ -132,7 +132,7 @@ fn put_contested(out: &mut [u8; 4096], used: usize, table: &Table, n: usize, cho
 
 // Scope n, which has this mark: where it has faulted, by which fault.
 fn put_faulted(
-    out: &mut [u8; 4096],
+    out: &mut Out,
     used: usize,
     names: &[u8; 16896],
     table: &Table,
@@ -149,7 +149,7 @@ fn put_faulted(
 }
 
 fn put_close(
-    out: &mut [u8; 4096],
+    out: &mut Out,
     used: usize,
     names: &[u8; 16896],
     table: &Table,
@@ -165,7 +165,7 @@ fn put_close(
 }
 
 fn put_ready(
-    out: &mut [u8; 4096],
+    out: &mut Out,
     used: usize,
     names: &[u8; 16896],
     table: &Table,
@@ -180,7 +180,7 @@ fn put_ready(
 
 // Activity n, which has the mark of what awaits its step or runs.
 fn put_active(
-    out: &mut [u8; 4096],
+    out: &mut Out,
     used: usize,
     names: &[u8; 16896],
     table: &Table,
@@ -207,7 +207,7 @@ fn put_active(
 
 // Activity or arm n, whose step is held or not.
 pub(crate) fn put_row(
-    out: &mut [u8; 4096],
+    out: &mut Out,
     used: usize,
     names: &[u8; 16896],
     table: &Table,
@@ -236,7 +236,7 @@ pub(crate) fn put_row(
 }
 
 pub(crate) fn put_rows(
-    out: &mut [u8; 4096],
+    out: &mut Out,
     used: usize,
     names: &[u8; 16896],
     table: &Table,

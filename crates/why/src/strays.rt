@@ -1,5 +1,5 @@
 // The messages that no receive of the plan can ever take, and those that no order can take now.
-use drawing::{put, put_next};
+use drawing::{Out, put, put_next};
 use fit::Receiver;
 use machine::{Message, State};
 use order::Order;
@@ -66,7 +66,7 @@ fn taker_of(
 }
 
 fn put_message(
-    out: &mut [u8; 4096],
+    out: &mut Out,
     used: usize,
     names: &[u8; 16896],
     table: &Table,
@@ -145,7 +145,7 @@ fn is_full(orders: [Order; 16]) -> bool {
 
 // Message j by its fate, where nobody takes it; where only what is held is asked for, where that is its fate.
 fn put_stray(
-    out: &mut [u8; 4096],
+    out: &mut Out,
     used: usize,
     names: &[u8; 16896],
     table: &Table,
@@ -174,7 +174,7 @@ fn put_stray(
 }
 
 fn put_untaken(
-    out: &mut [u8; 4096],
+    out: &mut Out,
     used: usize,
     names: &[u8; 16896],
     table: &Table,
@@ -210,7 +210,7 @@ fn put_untaken(
 
 // The messages that nobody takes; or those that are held alone.
 pub(crate) fn put_strays(
-    out: &mut [u8; 4096],
+    out: &mut Out,
     used: usize,
     names: &[u8; 16896],
     table: &Table,

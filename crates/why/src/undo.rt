@@ -1,18 +1,12 @@
 // What would be undone if what it is remembered for faulted now: the closings of an order, the latest first, and what each would send.
-use drawing::{end_of, entry, put, put_byte, put_scope, undo_of, wide};
+use drawing::{Out, end_of, entry, put, put_byte, put_scope, undo_of, wide};
 use order::Order;
 use plan::kind;
 use plan::table::{KIND, Table};
 use telling::put_sent;
 
 // For what a closing is remembered: the body of the root is part 0, and that of scope k is part k + 1.
-fn put_whose(
-    out: &mut [u8; 4096],
-    used: usize,
-    names: &[u8; 16896],
-    table: &Table,
-    part: usize,
-) -> usize {
+fn put_whose(out: &mut Out, used: usize, names: &[u8; 16896], table: &Table, part: usize) -> usize {
     if 0 < part {
         let at = put(out, used, b" for ");
         return put_scope(out, at, names, table, part - 1);
@@ -29,7 +23,7 @@ fn is_send(table: &Table, n: usize) -> bool {
 
 // The send in row n, where it is one.
 fn put_one(
-    out: &mut [u8; 4096],
+    out: &mut Out,
     used: usize,
     names: &[u8; 16896],
     table: &Table,
@@ -49,7 +43,7 @@ fn put_one(
 
 // What stands from one activity to the one before another sends.
 fn put_sends(
-    out: &mut [u8; 4096],
+    out: &mut Out,
     used: usize,
     names: &[u8; 16896],
     table: &Table,
@@ -69,7 +63,7 @@ fn put_sends(
 
 // A closing of scope n for a part.
 fn put_closing(
-    out: &mut [u8; 4096],
+    out: &mut Out,
     used: usize,
     names: &[u8; 16896],
     table: &Table,
@@ -87,7 +81,7 @@ fn put_closing(
 
 // The closing in place i, of those that an order remembers, the oldest in place 0: which scope, for what, and what its undo part sends.
 pub fn put_undone(
-    out: &mut [u8; 4096],
+    out: &mut Out,
     used: usize,
     names: &[u8; 16896],
     table: &Table,
@@ -116,7 +110,7 @@ pub fn put_undone(
 
 // The same in `why`, where there is one.
 fn put_would_undo(
-    out: &mut [u8; 4096],
+    out: &mut Out,
     used: usize,
     names: &[u8; 16896],
     table: &Table,
@@ -133,7 +127,7 @@ fn put_would_undo(
 
 // All closings that an order remembers, the latest first.
 pub(crate) fn put_undo(
-    out: &mut [u8; 4096],
+    out: &mut Out,
     used: usize,
     names: &[u8; 16896],
     table: &Table,

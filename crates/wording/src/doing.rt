@@ -1,6 +1,6 @@
 // What an activity is doing in an order, by the order's marks: one of those below, each with its words. (What each mark means:
 // crates/order/specs/State.antt.)
-use drawing::{after, end_of, entry, has_undo, parent_of, put, put_column, undo_of, wide};
+use drawing::{Out, after, end_of, entry, has_undo, parent_of, put, put_column, undo_of, wide};
 use order::Order;
 use plan::kind;
 use plan::table::{KIND, Table};
@@ -63,7 +63,7 @@ pub const UNDONE: usize = 16;
 const UNKNOWN: usize = 17;
 
 // What is done is said in two ways: in a column of its own, and as it is.
-fn put_said(out: &mut [u8; 4096], used: usize, column: bool, words: &[u8]) -> usize {
+fn put_said(out: &mut Out, used: usize, column: bool, words: &[u8]) -> usize {
     if column {
         return put_column(out, used, words);
     }
@@ -71,7 +71,7 @@ fn put_said(out: &mut [u8; 4096], used: usize, column: bool, words: &[u8]) -> us
 }
 
 // Of what waits for its step.
-fn put_ready(out: &mut [u8; 4096], used: usize, column: bool, doing: usize) -> usize {
+fn put_ready(out: &mut Out, used: usize, column: bool, doing: usize) -> usize {
     match doing {
         WAITING => put_said(out, used, column, b"waiting for a message"),
         TO_SEND => put_said(out, used, column, b"ready to send"),
@@ -85,7 +85,7 @@ fn put_ready(out: &mut [u8; 4096], used: usize, column: bool, doing: usize) -> u
 }
 
 // What an activity does, in words.
-pub fn put_doing(out: &mut [u8; 4096], used: usize, column: bool, doing: usize) -> usize {
+pub fn put_doing(out: &mut Out, used: usize, column: bool, doing: usize) -> usize {
     match doing {
         IDLE => put_said(out, used, column, b""),
         DONE => put_said(out, used, column, b"done"),

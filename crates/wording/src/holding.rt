@@ -1,16 +1,16 @@
 // What has no room left, where something is held: what is held waits for one of these.
 use super::orders::live_of;
-use drawing::{put, put_byte, put_next};
+use drawing::{Out, put, put_byte, put_next};
 use machine::State;
 use order::Order;
 
-fn put_line(out: &mut [u8; 4096], used: usize, line: &[u8]) -> usize {
+fn put_line(out: &mut Out, used: usize, line: &[u8]) -> usize {
     let at = put(out, used, line);
     put_byte(out, at, 10)
 }
 
 // A live order that remembers as many closings as it can.
-fn put_mindful(out: &mut [u8; 4096], used: usize, slot: usize, order: Order) -> usize {
+fn put_mindful(out: &mut Out, used: usize, slot: usize, order: Order) -> usize {
     if order.root == 0 {
         return used;
     }
@@ -22,7 +22,7 @@ fn put_mindful(out: &mut [u8; 4096], used: usize, slot: usize, order: Order) -> 
     put_line(out, at, b" remembers 32 closings")
 }
 
-fn put_mindfuls(out: &mut [u8; 4096], used: usize, orders: [Order; 16]) -> usize {
+fn put_mindfuls(out: &mut Out, used: usize, orders: [Order; 16]) -> usize {
     let mut at = used;
     let mut slot = 0;
     while slot < 16 {
@@ -34,7 +34,7 @@ fn put_mindfuls(out: &mut [u8; 4096], used: usize, orders: [Order; 16]) -> usize
 }
 
 // What is full: the messages, the slots, the closings of an order.
-pub fn put_full(out: &mut [u8; 4096], used: usize, state: State) -> usize {
+pub fn put_full(out: &mut Out, used: usize, state: State) -> usize {
     let orders = state.orders;
     let mut at = used;
     if 64 <= state.waiting {

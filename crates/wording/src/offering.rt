@@ -2,7 +2,8 @@
 use super::holding::put_full;
 use super::messages::put_taken;
 use drawing::{
-    entry, is_scope, put, put_activity, put_aligned, put_byte, put_next, put_number, put_refusal,
+    Out, entry, is_scope, put, put_activity, put_aligned, put_byte, put_next, put_number,
+    put_refusal,
 };
 use machine::{Message, State};
 use offer::Offered;
@@ -11,7 +12,7 @@ use plan::table::{KIND, LENGTH, Table};
 use plan::{Answer, kind};
 
 // A command word, how much is offered, and whether something is held.
-fn put_count(out: &mut [u8; 4096], used: usize, word: &[u8], o: Offered) -> usize {
+fn put_count(out: &mut Out, used: usize, word: &[u8], o: Offered) -> usize {
     let mut at = put(out, used, word);
     at = put_next(out, at, o.many as u64);
     if o.held {
@@ -34,7 +35,7 @@ fn place_of(x: u64) -> usize {
 }
 
 // A step as numbers.
-fn put_step(out: &mut [u8; 4096], used: usize, x: u64) -> usize {
+fn put_step(out: &mut Out, used: usize, x: u64) -> usize {
     let mut at = put_next(out, used, slot_of(x) as u64);
     at = put_byte(out, at, 58);
     at = put_number(out, at, activity_of(x) as u64);
@@ -51,7 +52,7 @@ fn choice_of(x: usize) -> u32 {
 }
 
 // The steps of a window, as numbers.
-fn put_window(out: &mut [u8; 4096], used: usize, window: &[u64; 256], many: usize) -> usize {
+fn put_window(out: &mut Out, used: usize, window: &[u64; 256], many: usize) -> usize {
     let mut at = used;
     let mut i: usize = 0;
     while i < 256 {
@@ -64,14 +65,14 @@ fn put_window(out: &mut [u8; 4096], used: usize, window: &[u64; 256], many: usiz
 }
 
 // The steps from a choice on, as numbers, no more than a window holds.
-fn put_from(out: &mut [u8; 4096], used: usize, state: State, first: u32, many: usize) -> usize {
+fn put_from(out: &mut Out, used: usize, state: State, first: u32, many: usize) -> usize {
     let mut window = [0u64; 256];
     listing::list(state, first, &mut window);
     put_window(out, used, &window, many)
 }
 
 // The steps as numbers, window by window: to ask for each by itself takes a pass over the offer each time.
-fn put_steps(out: &mut [u8; 4096], used: usize, state: State, many: usize) -> usize {
+fn put_steps(out: &mut Out, used: usize, state: State, many: usize) -> usize {
     let mut at = used;
     let mut left = many;
     while left > 256 {
@@ -82,7 +83,7 @@ fn put_steps(out: &mut [u8; 4096], used: usize, state: State, many: usize) -> us
 }
 
 // All that is offered, as numbers.
-pub fn put_offer(out: &mut [u8; 4096], used: usize, state: State) -> usize {
+pub fn put_offer(out: &mut Out, used: usize, state: State) -> usize {
     let o = offer::offers(state);
     if o.refusal != 0 {
         return put_refusal(out, used, b"offer", o.refusal);
@@ -101,7 +102,7 @@ fn is_live(orders: [Order; 16], slot: usize) -> bool {
 }
 
 // Which order a step is of; one that it starts is new.
-fn put_whose(out: &mut [u8; 4096], used: usize, orders: [Order; 16], slot: usize) -> usize {
+fn put_whose(out: &mut Out, used: usize, orders: [Order; 16], slot: usize) -> usize {
     if is_live(orders, slot) {
         let at = put(out, used, b"order");
         return put_next(out, at, slot as u64);
@@ -112,7 +113,7 @@ fn put_whose(out: &mut [u8; 4096], used: usize, orders: [Order; 16], slot: usize
 
 // The activity of a step, as the drawing says it. A scope's step is to close.
 fn put_what(
-    out: &mut [u8; 4096],
+    out: &mut Out,
     used: usize,
     names: &[u8; 16896],
     table: &Table,
@@ -130,7 +131,7 @@ fn put_what(
 
 // The message that a step takes, if it takes one.
 fn put_which(
-    out: &mut [u8; 4096],
+    out: &mut Out,
     used: usize,
     names: &[u8; 16896],
     kind: u32,
@@ -146,7 +147,7 @@ fn put_which(
 
 // A step in words.
 fn put_choice(
-    out: &mut [u8; 4096],
+    out: &mut Out,
     used: usize,
     names: &[u8; 16896],
     table: &Table,
@@ -168,7 +169,7 @@ fn put_choice(
 
 // The steps of a window, in words.
 fn put_worded(
-    out: &mut [u8; 4096],
+    out: &mut Out,
     used: usize,
     names: &[u8; 16896],
     table: &Table,
@@ -200,7 +201,7 @@ fn put_worded(
 
 // The steps from a choice on, in words, no more than a window holds.
 fn put_worded_from(
-    out: &mut [u8; 4096],
+    out: &mut Out,
     used: usize,
     names: &[u8; 16896],
     table: &Table,
@@ -216,7 +217,7 @@ fn put_worded_from(
 
 // The steps in words, window by window.
 fn put_choices(
-    out: &mut [u8; 4096],
+    out: &mut Out,
     used: usize,
     names: &[u8; 16896],
     table: &Table,
@@ -252,7 +253,7 @@ fn put_choices(
 }
 
 // All that is offered, in words; where something is held, what has no room left; and a blank line.
-pub fn put_offers(out: &mut [u8; 4096], used: usize, names: &[u8; 16896], state: State) -> usize {
+pub fn put_offers(out: &mut Out, used: usize, names: &[u8; 16896], state: State) -> usize {
     let mut table = [0u32; LENGTH];
     let mut flags = [0u8; 16];
     let o = offer::offers(state);

@@ -1,7 +1,8 @@
 // The live orders in words, and one order on the drawing of its plan.
 use super::doing::{doing_of, part_in, put_doing, scope_in};
 use drawing::{
-    put, put_aligned, put_byte, put_drawn, put_member, put_next, put_number, put_refusal, put_scope,
+    Out, put, put_aligned, put_byte, put_drawn, put_member, put_next, put_number, put_refusal,
+    put_scope,
 };
 use machine::State;
 use order::Order;
@@ -17,7 +18,7 @@ fn order_in(orders: [Order; 16], slot: usize) -> Order {
 }
 
 // How an order stands, by the mark of its root, which has beside it what it says of its fault.
-fn put_root(out: &mut [u8; 4096], used: usize, root: u8) -> usize {
+fn put_root(out: &mut Out, used: usize, root: u8) -> usize {
     match root % 16 {
         0 => put(out, used, b"free"),
         1 => put(out, used, b"running"),
@@ -28,7 +29,7 @@ fn put_root(out: &mut [u8; 4096], used: usize, root: u8) -> usize {
 }
 
 // The fault that the root faulted with, where it has faulted: its mark is then neither free nor running.
-fn put_cause(out: &mut [u8; 4096], used: usize, names: &[u8; 16896], root: u8, cause: u8) -> usize {
+fn put_cause(out: &mut Out, used: usize, names: &[u8; 16896], root: u8, cause: u8) -> usize {
     if root < 2 {
         return used;
     }
@@ -36,7 +37,7 @@ fn put_cause(out: &mut [u8; 4096], used: usize, names: &[u8; 16896], root: u8, c
 }
 
 // What stands between two of a list.
-fn put_between(out: &mut [u8; 4096], used: usize, i: usize) -> usize {
+fn put_between(out: &mut Out, used: usize, i: usize) -> usize {
     if i == 0 {
         return used;
     }
@@ -45,7 +46,7 @@ fn put_between(out: &mut [u8; 4096], used: usize, i: usize) -> usize {
 
 // A variable with its value.
 fn put_variable(
-    out: &mut [u8; 4096],
+    out: &mut Out,
     used: usize,
     names: &[u8; 16896],
     correlation: &[u8; 16],
@@ -65,7 +66,7 @@ fn put_variable(
 }
 
 fn put_values(
-    out: &mut [u8; 4096],
+    out: &mut Out,
     used: usize,
     names: &[u8; 16896],
     correlation: &[u8; 16],
@@ -87,7 +88,7 @@ fn put_values(
 
 // An order's variables.
 pub fn put_variables(
-    out: &mut [u8; 4096],
+    out: &mut Out,
     used: usize,
     names: &[u8; 16896],
     correlation: &[u8; 16],
@@ -101,7 +102,7 @@ pub fn put_variables(
 
 // Scope n, which closed, and for what that is remembered: the body of the root is part 0, and that of scope k is part k + 1.
 fn put_closing(
-    out: &mut [u8; 4096],
+    out: &mut Out,
     used: usize,
     names: &[u8; 16896],
     table: &Table,
@@ -118,7 +119,7 @@ fn put_closing(
 
 // An order's closings, oldest first.
 fn put_closings(
-    out: &mut [u8; 4096],
+    out: &mut Out,
     used: usize,
     names: &[u8; 16896],
     table: &Table,
@@ -142,7 +143,7 @@ fn put_closings(
 
 // Activity n with this mark, where it is a scope that faulted.
 fn put_faulted(
-    out: &mut [u8; 4096],
+    out: &mut Out,
     used: usize,
     names: &[u8; 16896],
     table: &Table,
@@ -158,7 +159,7 @@ fn put_faulted(
 
 // The scopes of an order with these marks that faulted and are not over, each with its fault.
 fn put_all_faulted(
-    out: &mut [u8; 4096],
+    out: &mut Out,
     used: usize,
     names: &[u8; 16896],
     table: &Table,
@@ -175,7 +176,7 @@ fn put_all_faulted(
 
 // How an order stands, and by which fault; and which scopes in it faulted.
 pub fn put_standing(
-    out: &mut [u8; 4096],
+    out: &mut Out,
     used: usize,
     names: &[u8; 16896],
     table: &Table,
@@ -189,7 +190,7 @@ pub fn put_standing(
 
 // The slot of an order, how it stands, and by which fault.
 fn put_head(
-    out: &mut [u8; 4096],
+    out: &mut Out,
     used: usize,
     names: &[u8; 16896],
     table: &Table,
@@ -204,7 +205,7 @@ fn put_head(
 
 // A line for a live order.
 fn put_order_line(
-    out: &mut [u8; 4096],
+    out: &mut Out,
     used: usize,
     names: &[u8; 16896],
     table: &Table,
@@ -247,7 +248,7 @@ pub fn live_of(orders: [Order; 16]) -> u64 {
 }
 
 fn put_order_lines(
-    out: &mut [u8; 4096],
+    out: &mut Out,
     used: usize,
     names: &[u8; 16896],
     table: &Table,
@@ -268,7 +269,7 @@ fn put_order_lines(
 }
 
 // How many orders are live, each of them, and a blank line.
-pub fn put_orders(out: &mut [u8; 4096], used: usize, names: &[u8; 16896], state: State) -> usize {
+pub fn put_orders(out: &mut Out, used: usize, names: &[u8; 16896], state: State) -> usize {
     let mut table = [0u32; LENGTH];
     let mut correlation = [0u8; 16];
     let orders = state.orders;
@@ -288,7 +289,7 @@ pub fn put_orders(out: &mut [u8; 4096], used: usize, names: &[u8; 16896], state:
 
 // A line of the drawing, with what that activity is doing.
 fn put_doing_line(
-    out: &mut [u8; 4096],
+    out: &mut Out,
     used: usize,
     names: &[u8; 16896],
     table: &Table,
@@ -303,7 +304,7 @@ fn put_doing_line(
 }
 
 fn put_doing_lines(
-    out: &mut [u8; 4096],
+    out: &mut Out,
     used: usize,
     names: &[u8; 16896],
     table: &Table,
@@ -322,7 +323,7 @@ fn put_doing_lines(
 
 // What stands under the drawing of an order.
 fn put_foot(
-    out: &mut [u8; 4096],
+    out: &mut Out,
     used: usize,
     names: &[u8; 16896],
     table: &Table,
@@ -339,7 +340,7 @@ fn put_foot(
 
 // The order in a slot on the drawing of its plan.
 fn put_drawn_order(
-    out: &mut [u8; 4096],
+    out: &mut Out,
     used: usize,
     names: &[u8; 16896],
     table: &Table,
@@ -360,7 +361,7 @@ fn put_drawn_order(
 
 // The order in a slot.
 pub fn put_order(
-    out: &mut [u8; 4096],
+    out: &mut Out,
     used: usize,
     names: &[u8; 16896],
     state: State,

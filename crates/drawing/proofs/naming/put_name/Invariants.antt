@@ -1,6 +1,5 @@
 -- `drawing::naming::put_name` is safe and ends. Assumes nothing.
 use Prim.Native.Nat.{◌-◌}
-use lib.ListN.{length}
 use Rattle.drawing.proofs.naming.put_name.Given as goal
 
 abbrev pub invariant-loop-i : goal.invariant-loop-i
