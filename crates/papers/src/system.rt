@@ -1,5 +1,7 @@
 // Files by their names, as the system has them. A name is bytes: of at most 4,095, none of them 0. The runtime takes only names that are text in UTF-8; any
 // other is none that it could open.
+ghost use Rattle.std.specs.Prelude.{◌≤◌, length, IfOk};
+
 use drawing::{failure, write_all};
 use std::fs;
 use std::fs::{File, OpenOptions};
@@ -92,7 +94,7 @@ fn letter(number: u64) -> u8 {
 fn put_letters(name: &mut [u8], number: u64) {
     let mut left = number;
     let mut at = name.len();
-    let mut k = 0;
+    let mut k: usize = 0;
     while k < 6 {
         if 0 < at {
             at -= 1;
@@ -115,7 +117,7 @@ fn any_number(runtime: HostRuntime) -> u64 {
 // Makes a new file: the last six places of `name` become letters and figures such that nothing has that name.
 pub fn create_temp(runtime: HostRuntime, name: &mut [u8]) -> Result<File, i32> {
     let mut number = any_number(runtime);
-    let mut tries = 0;
+    let mut tries: u32 = 0;
     while tries < 238328 {
         put_letters(name, number);
         match open_new(runtime, name) {
@@ -154,7 +156,9 @@ pub fn unlink(runtime: HostRuntime, name: &[u8]) {
 }
 
 // The place of the first 0 of a name; its end where there is none.
-fn end_of(name: &[u8]) -> usize {
+fn end_of(name: &[u8]) -> usize
+    ensures { result ≤ length name.now }
+{
     let mut i = 0;
     while i < name.len() {
         if name[i] == 0 {
@@ -197,7 +201,9 @@ pub fn synced(file: &File) -> i32 {
 }
 
 // Reads once: how many bytes, or why not.
-pub fn read_some(file: &File, bytes: &mut [u8]) -> Result<usize, i32> {
+pub fn read_some(file: &File, bytes: &mut [u8]) -> Result<usize, i32>
+    ensures { IfOk result (λ n. n ≤ length bytes.new) }
+{
     let mut from = file;
     match from.read(bytes) {
         Ok(n) => Ok(n),
@@ -206,7 +212,9 @@ pub fn read_some(file: &File, bytes: &mut [u8]) -> Result<usize, i32> {
 }
 
 // Reads until the bytes are full, the file ends or a read fails: how many bytes.
-pub fn read_full(file: &File, bytes: &mut [u8]) -> usize {
+pub fn read_full(file: &File, bytes: &mut [u8]) -> usize
+    ensures { result ≤ length bytes.new }
+{
     let mut done = 0;
     while done < bytes.len() {
         match read_some(file, &mut bytes[done..]) {
