@@ -10,8 +10,8 @@ use std::os::unix::fs::OpenOptionsExt;
 use std::random::RandomSource;
 use std::rt::Files;
 
-// The reasons that are told apart here, as the system numbers them: there is none such, no access, there is one already, it is a folder, no such name
-// can be, and the name is too long.
+// The reasons that are told apart here, as the system numbers them: no access, there is one already, it is a folder, no such name can be, and the name is
+// too long.
 pub const DENIED: i32 = 13;
 
 const THERE: i32 = 17;
