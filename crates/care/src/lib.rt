@@ -5,15 +5,15 @@ mod ordinary;
 mod paging;
 mod retaining;
 
-use drawing::{Out, put_error, runtime_of};
+use drawing::Out;
 use ordinary::Kind;
 pub use paging::page;
 use papers::{Desk, failed};
 
 // What is not done, and why.
 fn not_done(desk: Desk, number: u64, why: &[u8], out: &mut Out) -> Desk {
-    let used = put_error(out, desk.used, number, why);
-    failed(desk, used)
+    out.put_error(number, why);
+    failed(desk)
 }
 
 // Whether the file is the one that this desk saved or opened last, and holds something else now: another desk saved it since.
@@ -32,7 +32,7 @@ fn is_anothers(desk: Desk, file: &[u8], runtime: HostRuntime) -> bool {
 
 // A save over an ordinary file.
 fn replacing(desk: Desk, file: &[u8], number: u64, names: &[u8; 16896], out: &mut Out) -> Desk {
-    if is_anothers(desk, file, runtime_of(out)) {
+    if is_anothers(desk, file, out.runtime()) {
         return not_done(
             desk,
             number,
@@ -45,10 +45,9 @@ fn replacing(desk: Desk, file: &[u8], number: u64, names: &[u8; 16896], out: &mu
 
 // A save over an ordinary file, which stays as FILE.old.
 fn replaced(desk: Desk, file: &[u8], number: u64, names: &[u8; 16896], out: &mut Out) -> Desk {
-    let e = retaining::retained(runtime_of(out), file);
-    if e != 0 {
-        let used = papers::put_failed(out, desk.used, number, b"keep what it holds as FILE.old", e);
-        return failed(desk, used);
+    if let Err(reason) = retaining::retained(out.runtime(), file) {
+        papers::put_failed(out, number, b"keep what it holds as FILE.old", reason);
+        return failed(desk);
     }
     papers::save(desk, file, number, names, out)
 }
@@ -74,7 +73,7 @@ pub fn save(desk: Desk, file: &[u8], number: u64, names: &[u8; 16896], out: &mut
     if !desk.spoken {
         return papers::save(desk, file, number, names, out);
     }
-    let k = ordinary::kind_of(runtime_of(out), file);
+    let k = ordinary::kind_of(out.runtime(), file);
     match k {
         Kind::Nothing => papers::save(desk, file, number, names, out),
         Kind::Ordinary => replacing(desk, file, number, names, out),

@@ -7,10 +7,10 @@ mod taking;
 
 pub use answering::wrong;
 use commands::{Alone, Command, Listed, Numbered, Worded};
-use drawing::{Out, put_error};
+use drawing::Out;
 pub use lists::{Numbers, before, numbers_of, reply_in, rest_of};
 use machine::{State, Tally};
-use papers::{Desk, failed, shown};
+use papers::{Desk, failed};
 pub use taking::{message_of, put_collected, put_step, put_tally};
 
 // A command that stands alone. (The lines after a write are its caller's to gather: here it has none.)
@@ -29,23 +29,23 @@ fn answer_alone(
         Alone::Write => papers::write(desk, b"", number, bytes, names, out),
         Alone::Collect => taking::collect(desk, out),
         Alone::Offer | Alone::Waiting | Alone::Tally | Alone::Orders | Alone::Offers => {
-            let used = put_alone(desk, what, names, out);
-            shown(desk, used)
+            put_alone(desk, what, names, out);
+            desk
         }
     }
 }
 
 // One that changes nothing.
-fn put_alone(desk: Desk, what: Alone, names: &[u8; 16896], out: &mut Out) -> usize {
+fn put_alone(desk: Desk, what: Alone, names: &[u8; 16896], out: &mut Out) {
     let state = desk.state;
     let tally = desk.tally;
     match what {
-        Alone::Offer => wording::put_offer(out, desk.used, state),
-        Alone::Waiting => wording::put_waiting(out, desk.used, state),
-        Alone::Tally => taking::put_tally(out, desk.used, tally),
-        Alone::Orders => wording::put_orders(out, desk.used, names, state),
-        Alone::Offers => wording::put_offers(out, desk.used, names, state),
-        Alone::Draw | Alone::Collect | Alone::Names | Alone::Check | Alone::Write => desk.used,
+        Alone::Offer => wording::put_offer(out, state),
+        Alone::Waiting => wording::put_waiting(out, state),
+        Alone::Tally => taking::put_tally(out, tally),
+        Alone::Orders => wording::put_orders(out, names, state),
+        Alone::Offers => wording::put_offers(out, names, state),
+        Alone::Draw | Alone::Collect | Alone::Names | Alone::Check | Alone::Write => {}
     }
 }
 
@@ -70,12 +70,12 @@ fn answer_worded(
 // The order in a slot.
 fn answer_order(desk: Desk, slot: u32, number: u64, names: &[u8; 16896], out: &mut Out) -> Desk {
     if 15 < slot {
-        let used = put_error(out, desk.used, number, b"the slots are 0 to 15");
-        return failed(desk, used);
+        out.put_error(number, b"the slots are 0 to 15");
+        return failed(desk);
     }
     let state = desk.state;
-    let used = wording::put_order(out, desk.used, names, state, slot as usize);
-    shown(desk, used)
+    wording::put_order(out, names, state, slot as usize);
+    desk
 }
 
 // A command with a number.

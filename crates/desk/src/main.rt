@@ -48,40 +48,39 @@ fn more(n: u64) -> u64 {
 }
 
 // A line as it was read: after a prompt, where it is no comment and not blank.
-fn put_echo(out: &mut Out, used: usize, line: &[u8]) -> usize {
-    let mut at = used;
+fn put_echo(out: &mut Out, line: &[u8]) {
     let c = commands::command_of(line);
     if let Command::Nothing = c {
-        at = drawing::put(out, at, line);
+        out.put(line);
     } else {
-        at = drawing::put(out, at, b"> ");
-        at = drawing::put(out, at, line);
+        out.put(b"> ");
+        out.put(line);
     }
-    drawing::put_byte(out, at, 10)
+    out.put_byte(b'\n');
 }
 
 fn echoed(desk: Desk, echo: bool, line: &[u8], out: &mut Out) -> Desk {
     let mut d = desk;
     if echo {
-        d.used = put_echo(out, desk.used, line);
+        put_echo(out, line);
     }
     d
 }
 
 // A line of a text, comment or not; a prompt alone for the blank one that ends it.
-fn put_text_echo(out: &mut Out, used: usize, line: &[u8]) -> usize {
-    let mut at = drawing::put_byte(out, used, 62);
+fn put_text_echo(out: &mut Out, line: &[u8]) {
+    out.put_byte(b'>');
     if 0 < line.len() {
-        at = drawing::put_byte(out, at, 32);
+        out.put_byte(b' ');
     }
-    at = drawing::put(out, at, line);
-    drawing::put_byte(out, at, 10)
+    out.put(line);
+    out.put_byte(b'\n');
 }
 
 fn text_echoed(desk: Desk, echo: bool, line: &[u8], out: &mut Out) -> Desk {
     let mut d = desk;
     if echo {
-        d.used = put_text_echo(out, desk.used, line);
+        put_text_echo(out, line);
     }
     d
 }
@@ -126,21 +125,12 @@ fn answered(
     turned(s, desk, incoming::none())
 }
 
-fn put_spoilt(out: &mut Out, used: usize, incoming: Incoming) -> usize {
+fn put_spoilt(out: &mut Out, incoming: Incoming) {
     if incoming.long {
-        return drawing::put_error(
-            out,
-            used,
-            incoming.wrong,
-            b"the line has more than 16000 characters",
-        );
+        out.put_error(incoming.wrong, b"the line has more than 16000 characters");
+    } else {
+        out.put_error(incoming.wrong, b"the text has more than 131072 characters");
     }
-    drawing::put_error(
-        out,
-        used,
-        incoming.wrong,
-        b"the text has more than 131072 characters",
-    )
 }
 
 fn written_of(
@@ -168,8 +158,8 @@ fn written_in(
     out: &mut Out,
 ) -> Desk {
     if 0 < incoming.wrong {
-        let used = put_spoilt(out, desk.used, incoming);
-        return papers::failed(desk, used);
+        put_spoilt(out, incoming);
+        return papers::failed(desk);
     }
     written_of(desk, incoming, text, bytes, names, out)
 }
@@ -227,13 +217,8 @@ fn too_long(s: Session, out: &mut Out) -> Session {
     let incoming = s.incoming;
     let desk = s.desk;
     if incoming.line == 0 {
-        let used = drawing::put_error(
-            out,
-            desk.used,
-            s.lines,
-            b"the line has more than 16000 characters",
-        );
-        return turned(s, papers::failed(desk, used), incoming);
+        out.put_error(s.lines, b"the line has more than 16000 characters");
+        return turned(s, papers::failed(desk), incoming);
     }
     turned(s, desk, incoming::spoilt(incoming, s.lines, true))
 }
@@ -280,7 +265,7 @@ fn is_over(strict: bool, desk: Desk) -> bool {
     if desk.over {
         return true;
     }
-    if drawing::is_lost(desk.used) {
+    if out.is_lost() {
         return true;
     }
     if strict {
@@ -391,8 +376,8 @@ fn warned(s: Session, out: &mut Out) -> Session {
     let incoming = s.incoming;
     if desk.spoken {
         if speaking::is_at_risk(desk) {
-            let at = speaking::put_risk(desk, out, desk.used);
-            desk.used = drawing::put_byte(out, at, 10);
+            speaking::put_risk(desk, out);
+            out.put_byte(b'\n');
             return turned(s, desk, incoming);
         }
     }
@@ -402,10 +387,10 @@ fn warned(s: Session, out: &mut Out) -> Session {
 fn failed(s: Session, out: &mut Out) -> Session {
     let desk = s.desk;
     let number = more(s.lines);
-    let used = drawing::put_error(out, desk.used, number, b"the input cannot be read");
-    let mut last = turned(s, papers::failed(desk, used), incoming::none());
+    out.put_error(number, b"the input cannot be read");
+    let mut last = turned(s, papers::failed(desk), incoming::none());
     last.open = false;
-    words::stopped(drawing::runtime_of(out), b"the input cannot be read\n");
+    words::stopped(out.runtime(), b"the input cannot be read\n");
     last
 }
 
@@ -419,7 +404,7 @@ fn turn(
     out: &mut Out,
 ) -> Session {
     let mut chunk = [0u8; 4096];
-    let mut stdin = drawing::runtime_of(out).stdin();
+    let mut stdin = out.runtime().stdin();
     match stdin.read(&mut chunk) {
         Ok(n) => {
             if n == 0 {
@@ -435,7 +420,7 @@ fn turn(
 fn flushed(s: Session, out: &mut Out) -> Session {
     let mut desk = s.desk;
     let incoming = s.incoming;
-    desk.used = drawing::flush(out, desk.used);
+    out.flush();
     gone_on(turned(s, desk, incoming))
 }
 
@@ -446,9 +431,9 @@ fn asked(s: Session, out: &mut Out) -> Session {
     if s.asking {
         if s.open {
             if incoming.line == 0 {
-                desk.used = drawing::put(out, desk.used, b"desk> ");
+                out.put(b"desk> ");
             } else {
-                desk.used = drawing::put(out, desk.used, b"text> ");
+                out.put(b"text> ");
             }
             return turned(s, desk, incoming);
         }
@@ -494,7 +479,7 @@ fn run(
 // Why the session ended before its input did, where it did, on standard error: so a script that runs the desk knows.
 fn told(s: Session, runtime: HostRuntime) {
     let desk = s.desk;
-    if drawing::is_lost(desk.used) {
+    if out.is_lost() {
         words::stopped(runtime, b"an answer could not be written\n");
         return;
     }
@@ -511,7 +496,7 @@ fn served(start: Session, runtime: HostRuntime) {
     let mut text = [0u8; 131072];
     let mut bytes = [0u8; 8000];
     let mut names = [0u8; 16896];
-    let mut out = drawing::standard(runtime);
+    let mut out = Out::standard(runtime);
     let first = flushed(asked(start, &mut out), &mut out);
     let last = run(
         first, &mut line, &mut text, &mut bytes, &mut names, &mut out,

@@ -75,21 +75,21 @@ pub fn is_typed(runtime: HostRuntime) -> bool {
 // Why the desk stopped, on standard error.
 pub fn stopped(runtime: HostRuntime, why: &[u8]) {
     let mut stderr = runtime.stderr();
-    write_all(&mut stderr, b"desk: stopped: ");
-    write_all(&mut stderr, why);
+    let _ = write_all(&mut stderr, b"desk: stopped: ");
+    let _ = write_all(&mut stderr, why);
 }
 
 pub fn put_usage(runtime: HostRuntime) {
     let mut stdout = runtime.stdout();
-    write_all(
+    let _ = write_all(
         &mut stdout,
         b"desk [echo] [plain] [strict]: reads commands from standard input, one a line, and answers each on standard output.\n",
     );
-    write_all(
+    let _ = write_all(
         &mut stdout,
         b"  echo       repeat each line before its answer\n  plain      answer by numbers alone, with no brakes: for programs\n  strict     stop at the first error\n",
     );
-    write_all(
+    let _ = write_all(
         &mut stdout,
         b"  --help     this\n  --version  the version\nThe command help lists the commands. docs/DESK.md tells all of it.\n",
     );
@@ -97,5 +97,5 @@ pub fn put_usage(runtime: HostRuntime) {
 
 pub fn put_version(runtime: HostRuntime) {
     let mut stdout = runtime.stdout();
-    write_all(&mut stdout, b"moonhalyard desk 1\n");
+    let _ = write_all(&mut stdout, b"moonhalyard desk 1\n");
 }

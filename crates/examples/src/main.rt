@@ -77,12 +77,12 @@ fn agrees_with(written: &[u8], word: &[u8], rest: &[u8]) -> bool {
     false
 }
 
-fn agrees(out: &[u8], used: usize, line: &[u8], mark: usize) -> bool {
+fn agrees(written: &[u8], line: &[u8], mark: usize) -> bool {
     let w = text::word_at(line, 0);
     let from = w.from;
     let to = w.to;
     agrees_with(
-        part(out, 0, used),
+        part(written, 0, written.len()),
         part(line, from, to),
         part(line, next(mark), line.len()),
     )
@@ -93,10 +93,6 @@ fn next(n: usize) -> usize {
         return n + 1;
     }
     n
-}
-
-fn agrees_in(out: &Out, used: usize, line: &[u8], mark: usize) -> bool {
-    agrees(drawing::waiting(out), used, line, mark)
 }
 
 // The line at which an example was first answered otherwise, after one more line.
@@ -118,7 +114,7 @@ fn tried(
     bytes: &mut [u8; 8000],
     runtime: HostRuntime,
 ) -> Session {
-    let mut out = drawing::standard(runtime);
+    let mut out = Out::standard(runtime);
     // no example is written as text, so that there are no names
     let mut names = [0u8; 16896];
     let mark = mark_of(line);
@@ -132,7 +128,7 @@ fn tried(
         &mut names,
         &mut out,
     );
-    let same = agrees_in(&out, desk.used, line, mark);
+    agrees_in(&out, line, mark);
     Session {
         desk,
         lines: s.lines,
@@ -146,16 +142,14 @@ fn tried(
 }
 
 // What became of the present example.
-fn put_verdict(report: &mut Out, used: usize, examples: u64, differs: u64) -> usize {
-    if examples == 0 {
-        return used;
+fn put_verdict(report: &mut Out, examples: u64, differs: u64) {
+    if examples == 0 {} else if differs == 0 {
+        report.put(b": as expected\n");
+    } else {
+        report.put(b": DIFFERS at line ");
+        report.put_number(differs);
+        report.put_byte(b'\n');
     }
-    if differs == 0 {
-        return drawing::put(report, used, b": as expected\n");
-    }
-    let mut at = drawing::put(report, used, b": DIFFERS at line ");
-    at = drawing::put_number(report, at, differs);
-    drawing::put_byte(report, at, 10)
 }
 
 fn agreed_with(s: Session) -> u64 {
@@ -171,8 +165,8 @@ fn agreed_with(s: Session) -> u64 {
 // A heading: the example before it is over.
 fn headed(s: Session, line: &[u8], report: &mut Out) -> Session {
     let agreed = agreed_with(s);
-    let mut used = put_verdict(report, s.used, s.examples, s.differs);
-    used = drawing::put(report, used, part(line, 10, line.len()));
+    put_verdict(report, s.examples, s.differs);
+    report.put(part(line, 10, line.len()));
     let desk = s.desk;
     Session {
         desk,
@@ -203,7 +197,7 @@ fn answered(
     if line.len() == 0 {
         return s;
     }
-    tried(s, line, number, bytes, drawing::runtime_of(report))
+    tried(s, line, number, bytes, report.runtime())
 }
 
 // A line that is too long is answered otherwise than anything beside it.
@@ -262,7 +256,7 @@ fn feed(
 // Reads once.
 fn turn(s: Session, line: &mut [u8; 16002], bytes: &mut [u8; 8000], report: &mut Out) -> Session {
     let mut chunk = [0u8; 4096];
-    let mut stdin = drawing::runtime_of(report).stdin();
+    let mut stdin = report.runtime().stdin();
     let n = stdin.read(&mut chunk).unwrap_or(0);
     if n == 0 {
         let mut last = s;
@@ -287,18 +281,18 @@ fn run(s: Session, line: &mut [u8; 16002], bytes: &mut [u8; 8000], report: &mut 
 }
 
 // How many examples there were, and how many agreed.
-fn put_count(s: Session, report: &mut Out) -> usize {
-    let mut used = put_verdict(report, s.used, s.examples, s.differs);
-    used = drawing::put_number(report, used, s.examples);
-    used = drawing::put(report, used, b" examples, ");
-    used = drawing::put_number(report, used, agreed_with(s));
-    drawing::put(report, used, b" as expected\n")
+fn put_count(s: Session, report: &mut Out) {
+    put_verdict(report, s.examples, s.differs);
+    report.put_number(s.examples);
+    report.put(b" examples, ");
+    report.put_number(agreed_with(s));
+    report.put(b" as expected\n");
 }
 
 fn main(rt: HostRuntime) {
     let mut line = [0u8; 16002];
     let mut bytes = [0u8; 8000];
-    let mut report = drawing::standard(rt);
+    let mut report = Out::standard(rt);
     let desk = papers::new();
     let start = Session {
         desk,
@@ -311,6 +305,6 @@ fn main(rt: HostRuntime) {
         open: true,
     };
     let last = run(start, &mut line, &mut bytes, &mut report);
-    let used = put_count(last, &mut report);
-    drawing::flush(&mut report, used);
+    put_count(last, &mut report);
+    report.flush();
 }

@@ -18,7 +18,7 @@ mod writing;
 pub use brakes::{braked, is_braked, live_in, put_lost};
 pub use checks::{check, warn};
 pub use drawing::failure;
-pub use files::{kept_front, open, put_failed, put_name, replaced_by, save};
+pub use files::{kept_front, name_with, open, put_failed, replaced_by, save};
 use machine::{State, Tally};
 pub use mends::mend;
 pub use plans::{draw, load, names, new, show};
@@ -26,7 +26,7 @@ pub use sealed::READ;
 pub use sums::sum_of;
 pub use writing::write;
 
-// The state that orders run on, the tally, how many bytes the last plan has, and how many bytes wait to be written. What the last answer came to: 0, a
+// The state that orders run on, the tally, and how many bytes the last plan has. What the last answer came to: 0, a
 // refusal, 1000 for an error, or 2000 where only names changed. Whether it answers with words, and has brakes; and whether this command has none. Whether something changed since the
 // last save or open, whether there was one, and sums of the name of that file and of what it held. Whether it was told to end.
 #[derive(Clone, Copy)]
@@ -34,7 +34,6 @@ pub struct Desk {
     pub state: State,
     pub tally: Tally,
     pub plan: usize,
-    pub used: usize,
     pub said: u32,
     pub spoken: bool,
     pub bold: bool,
@@ -45,33 +44,24 @@ pub struct Desk {
     pub over: bool,
 }
 
-// The desk, of which nothing changed but what waits to be written.
-pub fn shown(desk: Desk, used: usize) -> Desk {
+// The desk, with what the answer came to.
+pub fn refused(desk: Desk, refusal: u32) -> Desk {
     let mut d = desk;
-    d.used = used;
-    d
-}
-
-// The same, with what the answer came to.
-pub fn refused(desk: Desk, used: usize, refusal: u32) -> Desk {
-    let mut d = desk;
-    d.used = used;
     d.said = refusal;
     d
 }
 
 // The same, where the answer is an error.
-pub fn failed(desk: Desk, used: usize) -> Desk {
-    refused(desk, used, 1000)
+pub fn failed(desk: Desk) -> Desk {
+    refused(desk, 1000)
 }
 
 // The desk on another state.
-pub fn changed(desk: Desk, state: State, tally: Tally, plan: usize, used: usize) -> Desk {
+pub fn changed(desk: Desk, state: State, tally: Tally, plan: usize) -> Desk {
     Desk {
         state,
         tally,
         plan,
-        used,
         said: 0,
         spoken: desk.spoken,
         bold: desk.bold,

@@ -2,25 +2,25 @@
 use super::plans::fresh;
 use super::writing::forget;
 use super::{Desk, failed, refused};
-use drawing::{Out, put, put_byte, put_error, put_hex, put_number, put_pair};
+use drawing::Out;
 use mend::Answer;
 use text::Hex;
 
 // How many groups were cut, and the mended plan.
-fn put_mended(plan: &[u8], cut: usize, out: &mut Out, used: usize) -> usize {
-    let mut at = put(out, used, b"mend 0 ");
-    at = put_number(out, at, cut as u64);
-    at = put_byte(out, at, 32);
-    at = put_hex(out, at, plan);
-    put_byte(out, at, 10)
+fn put_mended(plan: &[u8], cut: usize, out: &mut Out) {
+    out.put(b"mend 0 ");
+    out.put_number(cut as u64);
+    out.put_byte(b' ');
+    out.put_hex(plan);
+    out.put_byte(b'\n');
 }
 
 // A desk on the mended plan, which is the first `length` bytes, with a fresh state.
 fn mended_of(desk: Desk, bytes: &[u8], length: usize, cut: usize, out: &mut Out) -> Desk {
     if length <= bytes.len() {
-        let used = put_mended(&bytes[0..length], cut, out, desk.used);
+        put_mended(&bytes[0..length], cut, out);
         let loaded = machine::load(&bytes[0..length]);
-        return fresh(desk, loaded, length, used);
+        return fresh(desk, loaded, length);
     }
     desk
 }
@@ -49,8 +49,8 @@ fn mend_into(
     let a = mend::mend(padded, bytes);
     match a {
         Answer::Refused { number, place } => {
-            let used = put_pair(out, desk.used, b"mend", number as u64, place as u64);
-            refused(desk, used, number)
+            out.put_pair(b"mend", number as u64, place as u64);
+            refused(desk, number)
         }
         Answer::Mended { length, cut } => mended(desk, bytes, length, cut, names, out),
     }
@@ -95,12 +95,12 @@ pub fn mend(
     match h {
         Hex::Bytes { count } => mend_in(desk, &given, count, bytes, names, out),
         Hex::Long => {
-            let used = put_error(out, desk.used, number, b"more than 8000 bytes");
-            failed(desk, used)
+            out.put_error(number, b"more than 8000 bytes");
+            failed(desk)
         }
         Hex::Bad => {
-            let used = put_error(out, desk.used, number, b"not hexadecimal");
-            failed(desk, used)
+            out.put_error(number, b"not hexadecimal");
+            failed(desk)
         }
     }
 }

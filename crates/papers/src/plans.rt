@@ -1,32 +1,24 @@
 // The commands on plans: plan, show, draw and names. The last plan is the first `plan` bytes of `bytes`, accepted or refused.
 use super::writing::forget;
-use super::{Desk, changed, failed, refused, shown};
-use drawing::{
-    Out, put, put_byte, put_drawing, put_error, put_hex, put_names, put_number, put_pair,
-};
+use super::{Desk, changed, failed, refused};
+use drawing::{Out, put_drawing, put_names};
 use machine::Loaded;
 use plan::Answer;
 use plan::table::{LENGTH, Table};
 use text::Hex;
 
 // What a plan is found to be.
-fn put_plan(s: &[u8], out: &mut Out, used: usize) -> usize {
+fn put_plan(s: &[u8], out: &mut Out) {
     let mut table = [0u32; LENGTH];
     let mut correlation = [0u8; 16];
     let a = plan::accept(s, &mut table, &mut correlation);
     match a {
-        Answer::Refused { number, place } => put_pair(
-            out,
-            used,
-            b"plan",
-            number as u64,
-            place as u64,
-        ),
+        Answer::Refused { number, place } => out.put_pair(b"plan", number as u64, place as u64),
         Answer::Accepted {
             variables: _,
             activities,
             nodes: _,
-        } => put_pair(out, used, b"plan", 0, activities as u64),
+        } => out.put_pair(b"plan", 0, activities as u64),
     }
 }
 
@@ -39,28 +31,29 @@ fn put_accepted(
     activities: usize,
     drawn: bool,
     out: &mut Out,
-    used: usize,
-) -> usize {
-    let at = put_names(out, used, names, correlation, variables);
+) {
+    put_names(out, names, correlation, variables);
     if drawn {
-        return put_drawing(out, at, names, table, correlation, activities);
+        put_drawing(out, names, table, correlation, activities);
+    } else {
+        out.put_byte(b'\n');
     }
-    put_byte(out, at, 10)
 }
 
-fn put_refused(drawn: bool, number: u32, place: usize, out: &mut Out, used: usize) -> usize {
+fn put_refused(drawn: bool, number: u32, place: usize, out: &mut Out) {
     if drawn {
-        return put_pair(out, used, b"draw", number as u64, place as u64);
+        out.put_pair(b"draw", number as u64, place as u64);
+    } else {
+        out.put_pair(b"names", number as u64, place as u64);
     }
-    put_pair(out, used, b"names", number as u64, place as u64)
 }
 
-fn put_draw(s: &[u8], names: &[u8; 16896], drawn: bool, out: &mut Out, used: usize) -> usize {
+fn put_draw(s: &[u8], names: &[u8; 16896], drawn: bool, out: &mut Out) {
     let mut table = [0u32; LENGTH];
     let mut correlation = [0u8; 16];
     let a = plan::accept(s, &mut table, &mut correlation);
     match a {
-        Answer::Refused { number, place } => put_refused(drawn, number, place, out, used),
+        Answer::Refused { number, place } => put_refused(drawn, number, place, out),
         Answer::Accepted {
             variables,
             activities,
@@ -73,72 +66,62 @@ fn put_draw(s: &[u8], names: &[u8; 16896], drawn: bool, out: &mut Out, used: usi
             activities,
             drawn,
             out,
-            used,
         ),
     }
 }
 
 // What a show finds, after its refusal.
-fn put_shown(part: &[u8], refusal: u32, out: &mut Out, used: usize) -> usize {
-    let mut at = put(out, used, b"show ");
-    at = put_number(out, at, refusal as u64);
+fn put_shown(part: &[u8], refusal: u32, out: &mut Out) {
+    out.put(b"show ");
+    out.put_number(refusal as u64);
     if refusal == 0 {
-        at = put_byte(out, at, 32);
-        at = put_hex(out, at, part);
+        out.put_byte(b' ');
+        out.put_hex(part);
     }
-    put_byte(out, at, 10)
+    out.put_byte(b'\n');
 }
 
-fn put_show(s: &[u8], k: u32, out: &mut Out, used: usize) -> usize {
+fn put_show(s: &[u8], k: u32, out: &mut Out) {
     let mut start: usize = 0;
     let mut refusal = 0u32;
     let part = show::show(s, k as usize, &mut start, &mut refusal);
-    put_shown(part, refusal, out, used)
+    put_shown(part, refusal, out);
 }
 
 // The same of the last plan.
-fn draw_of(
-    bytes: &[u8],
-    plan: usize,
-    names: &[u8; 16896],
-    drawn: bool,
-    out: &mut Out,
-    used: usize,
-) -> usize {
+fn draw_of(bytes: &[u8], plan: usize, names: &[u8; 16896], drawn: bool, out: &mut Out) {
     if plan <= bytes.len() {
-        return put_draw(&bytes[0..plan], names, drawn, out, used);
+        put_draw(&bytes[0..plan], names, drawn, out);
     }
-    used
 }
 
 pub fn draw(desk: Desk, bytes: &[u8; 8000], names: &[u8; 16896], out: &mut Out) -> Desk {
-    let used = draw_of(bytes, desk.plan, names, true, out, desk.used);
-    shown(desk, used)
+    draw_of(bytes, desk.plan, names, true, out);
+    desk
 }
 
 pub fn names(desk: Desk, bytes: &[u8; 8000], names: &[u8; 16896], out: &mut Out) -> Desk {
-    let used = draw_of(bytes, desk.plan, names, false, out, desk.used);
-    shown(desk, used)
+    draw_of(bytes, desk.plan, names, false, out);
+    desk
 }
 
-fn show_of(bytes: &[u8], plan: usize, k: u32, out: &mut Out, used: usize) -> usize {
+fn show_of(bytes: &[u8], plan: usize, k: u32, out: &mut Out) {
     if plan <= bytes.len() {
-        return put_show(&bytes[0..plan], k, out, used);
+        put_show(&bytes[0..plan], k, out);
     }
-    used
 }
 
 pub fn show(desk: Desk, k: u32, bytes: &[u8; 8000], out: &mut Out) -> Desk {
-    let used = show_of(bytes, desk.plan, k, out, desk.used);
-    shown(desk, used)
+    show_of(bytes, desk.plan, k, out);
+    desk
 }
 
 // The desk on a state that was loaded, with an empty tally.
-pub(crate) fn fresh(desk: Desk, loaded: Loaded, plan: usize, used: usize) -> Desk {
+pub(crate) fn fresh(desk: Desk, loaded: Loaded, plan: usize) -> Desk {
     let state = loaded.state;
     let tally = machine::no_tally();
-    let d = changed(desk, state, tally, plan, used);
-    refused(d, used, loaded.refusal)
+    let d = changed(desk, state, tally, plan);
+    refused(d, loaded.refusal)
 }
 
 // The desk as it begins: there is no plan, and it answers by numbers alone.
@@ -151,7 +134,6 @@ pub fn new() -> Desk {
         state,
         tally,
         plan: 0,
-        used: 0,
         said: 0,
         spoken: false,
         bold: false,
@@ -166,9 +148,9 @@ pub fn new() -> Desk {
 // A desk on the plan that some bytes spell.
 fn loaded_of(desk: Desk, bytes: &[u8], plan: usize, out: &mut Out) -> Desk {
     if plan <= bytes.len() {
-        let used = put_plan(&bytes[0..plan], out, desk.used);
+        put_plan(&bytes[0..plan], out);
         let loaded = machine::load(&bytes[0..plan]);
-        return fresh(desk, loaded, plan, used);
+        return fresh(desk, loaded, plan);
     }
     desk
 }
@@ -194,12 +176,12 @@ pub fn load(
             loaded_in(desk, bytes, count, out)
         }
         Hex::Long => {
-            let used = put_error(out, desk.used, number, b"more than 8000 bytes");
-            failed(desk, used)
+            out.put_error(number, b"more than 8000 bytes");
+            failed(desk)
         }
         Hex::Bad => {
-            let used = put_error(out, desk.used, number, b"not hexadecimal");
-            failed(desk, used)
+            out.put_error(number, b"not hexadecimal");
+            failed(desk)
         }
     }
 }

@@ -6,8 +6,8 @@ use super::places::put_place;
 use super::plans::fresh;
 use super::reasons::put_why;
 use super::rules::put_rule;
-use super::{Desk, failed, refused, shown};
-use drawing::{Out, put, put_byte, put_hex, put_next, put_pair, unended};
+use super::{Desk, failed, refused};
+use drawing::Out;
 use machine::State;
 use sheet::Sheet;
 use writer::Answer;
@@ -87,37 +87,29 @@ fn line_of(lines: &[u32; 4355], row: usize) -> u64 {
 }
 
 // What is wrong with a line of the text, and, where it is to be pointed at, by which word.
-fn put_wrong(
-    out: &mut Out,
-    used: usize,
-    line: u64,
-    reason: usize,
-    text: &[u8],
-    place: usize,
-    pointed: bool,
-) -> usize {
-    let mut at = put(out, used, b"error");
-    at = put_next(out, at, line);
-    at = put_byte(out, at, 32);
-    at = put_why(out, at, reason);
+fn put_wrong(out: &mut Out, line: u64, reason: usize, text: &[u8], place: usize, pointed: bool) {
+    out.put(b"error");
+    out.put_next(line);
+    out.put_byte(b' ');
+    put_why(out, reason);
     if pointed {
-        at = put_place(out, at, text, place);
+        put_place(out, text, place);
     }
-    put_byte(out, at, 10)
+    out.put_byte(b'\n');
 }
 
-fn put_written(out: &mut Out, used: usize, plan: &[u8]) -> usize {
-    let mut at = put(out, used, b"write 0 ");
-    at = put_hex(out, at, plan);
-    put_byte(out, at, 10)
+fn put_written(out: &mut Out, plan: &[u8]) {
+    out.put(b"write 0 ");
+    out.put_hex(plan);
+    out.put_byte(b'\n');
 }
 
 // A desk on a plan that was written, with a fresh state.
 fn written_of(desk: Desk, plan: &[u8], length: usize, out: &mut Out) -> Desk {
     if length <= plan.len() {
-        let used = put_written(out, desk.used, &plan[0..length]);
+        put_written(out, &plan[0..length]);
         let loaded = machine::load(&plan[0..length]);
-        return fresh(desk, loaded, length, used);
+        return fresh(desk, loaded, length);
     }
     desk
 }
@@ -133,8 +125,8 @@ fn renamed(
 ) -> Desk {
     if length <= plan.len() {
         sheet::names_of(text, names);
-        let used = put_written(out, desk.used, &plan[0..length]);
-        return refused(desk, used, 2000);
+        put_written(out, &plan[0..length]);
+        return refused(desk, 2000);
     }
     desk
 }
@@ -208,10 +200,10 @@ fn ruled(
     if !desk.spoken {
         return desk;
     }
-    let mut at = unended(out, desk.used);
-    at = put_rule(out, at, text, rows, lines, row);
-    at = put_byte(out, at, 10);
-    shown(desk, at)
+    out.go_on();
+    put_rule(out, text, rows, lines, row);
+    out.put_byte(b'\n');
+    desk
 }
 
 // The rows of a text are written.
@@ -240,12 +232,12 @@ fn write_rows(
             place,
         } => {
             if refusal == 21 {
-                let used = put_disagreeing(text, number, rows, lines, place, out, desk.used);
-                return refused(desk, used, refusal);
+                put_disagreeing(text, number, rows, lines, place, out);
+                return refused(desk, refusal);
             }
             let line = line_after(number, line_of(lines, place));
-            let used = put_pair(out, desk.used, b"write", wide(refusal), line);
-            ruled(refused(desk, used, refusal), text, rows, lines, place, out)
+            out.put_pair(b"write", wide(refusal), line);
+            ruled(refused(desk, refusal), text, rows, lines, place, out)
         }
     }
 }
@@ -272,16 +264,15 @@ pub fn write(
             reason,
             place,
         } => {
-            let used = put_wrong(
+            put_wrong(
                 out,
-                desk.used,
                 line_after(number, line as u64),
                 reason,
                 text,
                 place,
                 desk.spoken,
             );
-            failed(desk, used)
+            failed(desk)
         }
     }
 }

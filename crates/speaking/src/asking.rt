@@ -1,23 +1,23 @@
 // Why orders stand as they do.
-use drawing::{Out, put, put_error, put_next, put_refusal, unended};
+use drawing::Out;
 use order::Order;
-use papers::{Desk, failed, live_in, refused, shown};
+use papers::{Desk, failed, live_in, refused};
 
 // How many orders are live, and then each.
 fn put_asked(desk: Desk, only: usize, names: &[u8; 16896], out: &mut Out) -> Desk {
     let state = desk.state;
     let orders = state.orders;
     if state.length == 0 {
-        let at = put_refusal(out, desk.used, b"why", 17);
-        let at = unended(out, at);
-        let used = sayings::put_refused(out, at, 17);
-        return refused(desk, used, 17);
+        out.put_refusal(b"why", 17);
+        out.go_on();
+        sayings::put_refused(out, 17);
+        return refused(desk, 17);
     }
-    let mut at = put(out, desk.used, b"why");
-    at = put_next(out, at, live_in(orders) as u64);
-    at = put(out, at, b"\n");
-    let used = why::put_why(out, at, names, state, only);
-    shown(desk, used)
+    out.put(b"why");
+    out.put_next(live_in(orders) as u64);
+    out.put(b"\n");
+    why::put_why(out, names, state, only);
+    desk
 }
 
 // Of all orders, and of the messages that nobody takes.
@@ -34,15 +34,15 @@ pub(crate) fn why_one(
     out: &mut Out,
 ) -> Desk {
     if 15 < slot {
-        let used = put_error(out, desk.used, number, b"the slots are 0 to 15");
-        return failed(desk, used);
+        out.put_error(number, b"the slots are 0 to 15");
+        return failed(desk);
     }
     let k = slot as usize;
     let state = desk.state;
     let orders = state.orders;
     if is_free(orders, k) {
-        let used = put_free(out, desk.used, k);
-        return shown(desk, used);
+        put_free(out, k);
+        return desk;
     }
     put_asked(desk, k, names, out)
 }
@@ -55,8 +55,8 @@ fn is_free(orders: [Order; 16], slot: usize) -> bool {
     true
 }
 
-fn put_free(out: &mut Out, used: usize, slot: usize) -> usize {
-    let mut at = put(out, used, b"why 0 - order");
-    at = put_next(out, at, slot as u64);
-    put(out, at, b" is free\n")
+fn put_free(out: &mut Out, slot: usize) {
+    out.put(b"why 0 - order");
+    out.put_next(slot as u64);
+    out.put(b" is free\n");
 }

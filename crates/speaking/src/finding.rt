@@ -1,8 +1,8 @@
 // An order by the value of one of its variables.
-use drawing::{Out, put, put_byte, put_next};
+use drawing::Out;
 use machine::State;
 use order::Order;
-use papers::{Desk, failed, shown};
+use papers::{Desk, failed};
 use text::Decimal;
 
 // The variable that `v0`, `v1` and so on stand for; 16 where a word is none of these.
@@ -51,25 +51,16 @@ fn has(order: Order, variable: usize, value: u32) -> bool {
 }
 
 // Each order that has it, as `order` shows it.
-fn put_orders(
-    out: &mut Out,
-    used: usize,
-    names: &[u8; 16896],
-    state: State,
-    variable: usize,
-    value: u32,
-) -> usize {
+fn put_orders(out: &mut Out, names: &[u8; 16896], state: State, variable: usize, value: u32) {
     let orders = state.orders;
-    let mut at = used;
     let mut slot = 0;
     while slot < 16 {
         let order = orders[slot];
         if has(order, variable, value) {
-            at = wording::put_order(out, at, names, state, slot);
+            wording::put_order(out, names, state, slot);
         }
         slot += 1;
     }
-    at
 }
 
 // Whether an order has it.
@@ -86,13 +77,13 @@ fn some_has(orders: [Order; 16], variable: usize, value: u32) -> bool {
 }
 
 fn none(desk: Desk, word: &[u8], value: u32, number: u64, out: &mut Out) -> Desk {
-    let mut at = put(out, desk.used, b"error");
-    at = put_next(out, at, number);
-    at = put(out, at, b" no live order has ");
-    at = put(out, at, word);
-    at = put_next(out, at, value as u64);
-    at = put_byte(out, at, 10);
-    failed(desk, at)
+    out.put(b"error");
+    out.put_next(number);
+    out.put(b" no live order has ");
+    out.put(word);
+    out.put_next(value as u64);
+    out.put_byte(b'\n');
+    failed(desk)
 }
 
 // The orders whose variable has this value.
@@ -108,8 +99,8 @@ pub(crate) fn order_by(
     let state = desk.state;
     let orders = state.orders;
     if some_has(orders, variable, value) {
-        let used = put_orders(out, desk.used, names, state, variable, value);
-        return shown(desk, used);
+        put_orders(out, names, state, variable, value);
+        return desk;
     }
     none(desk, word, value, number, out)
 }

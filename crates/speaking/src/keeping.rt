@@ -1,7 +1,7 @@
 // Plans and files, with brakes: what is live is not dropped by the way, and what is not saved is told.
-use drawing::{Out, put, put_byte, put_next, put_pair, unended};
+use drawing::Out;
 use machine::State;
-use papers::{Desk, braked, failed, is_braked, live_in, put_lost, refused, shown};
+use papers::{Desk, braked, failed, is_braked, live_in, put_lost, refused};
 use plan::Answer;
 use plan::table::LENGTH;
 use sayings::put_refused;
@@ -25,10 +25,10 @@ pub(crate) fn activities_of(state: State) -> usize {
     }
 }
 
-fn put_accepted(out: &mut Out, used: usize, activities: usize) -> usize {
-    let mut at = put(out, used, b" - accepted:");
-    at = put_next(out, at, activities as u64);
-    put(out, at, b" activities and arms\n")
+fn put_accepted(out: &mut Out, activities: usize) {
+    out.put(b" - accepted:");
+    out.put_next(activities as u64);
+    out.put(b" activities and arms\n");
 }
 
 // What the last answer came to, in words behind it, and what the plan is warned of: an error says it all.
@@ -36,22 +36,22 @@ fn told(desk: Desk, bytes: &[u8; 8000], names: &[u8; 16896], out: &mut Out) -> D
     if 999 < desk.said {
         return desk;
     }
-    let at = unended(out, desk.used);
+    out.go_on();
     if desk.said == 0 {
         let state = desk.state;
-        let used = put_accepted(out, at, activities_of(state));
-        return papers::warn(shown(desk, used), bytes, names, out);
+        put_accepted(out, activities_of(state));
+        return papers::warn(desk, bytes, names, out);
     }
-    let used = put_refused(out, at, desk.said);
-    shown(desk, used)
+    put_refused(out, desk.said);
+    desk
 }
 
 // A plan that is refused changes nothing: it is only said why.
 fn turned_down(desk: Desk, refusal: u32, place: usize, out: &mut Out) -> Desk {
-    let mut at = put_pair(out, desk.used, b"plan", refusal as u64, place as u64);
-    at = unended(out, at);
-    at = put_refused(out, at, refusal);
-    refused(desk, at, refusal)
+    out.put_pair(b"plan", refusal as u64, place as u64);
+    out.go_on();
+    put_refused(out, refusal);
+    refused(desk, refusal)
 }
 
 // Whether some bytes are a plan.
@@ -130,16 +130,17 @@ pub(crate) fn mend(
     told(d, bytes, names, out)
 }
 
-fn put_what(desk: Desk, out: &mut Out, used: usize) -> usize {
+fn put_what(desk: Desk, out: &mut Out) {
     let state = desk.state;
     let orders = state.orders;
     let live = live_in(orders);
     if live == 0 {
         if state.waiting == 0 {
-            return put(out, used, b"no order is live, no message waits");
+            out.put(b"no order is live, no message waits");
+            return;
         }
     }
-    put_lost(out, used, live, state.waiting)
+    put_lost(out, live, state.waiting);
 }
 
 // What a file holds, behind its numbers.
@@ -147,13 +148,13 @@ fn filed(desk: Desk, front: &[u8], file: &[u8], out: &mut Out) -> Desk {
     if desk.said != 0 {
         return desk;
     }
-    let mut at = unended(out, desk.used);
-    at = put(out, at, front);
-    at = put(out, at, file);
-    at = put(out, at, b": ");
-    at = put_what(desk, out, at);
-    at = put_byte(out, at, 10);
-    shown(desk, at)
+    out.go_on();
+    out.put(front);
+    out.put(file);
+    out.put(b": ");
+    put_what(desk, out);
+    out.put_byte(b'\n');
+    desk
 }
 
 // Saves the state.
@@ -217,13 +218,9 @@ pub fn written(
         return d;
     }
     if d.said == 2000 {
-        let mut at = unended(out, d.used);
-        at = put(
-            out,
-            at,
-            b" - the plan that runs: its names are taken, nothing else changes\n",
-        );
-        return papers::warn(shown(d, at), bytes, names, out);
+        out.go_on();
+        out.put(b" - the plan that runs: its names are taken, nothing else changes\n");
+        return papers::warn(d, bytes, names, out);
     }
     told(d, bytes, names, out)
 }
@@ -245,10 +242,9 @@ pub fn is_at_risk(desk: Desk) -> bool {
 }
 
 // What would be lost.
-pub fn put_risk(desk: Desk, out: &mut Out, used: usize) -> usize {
-    let mut at = put(out, used, b"not saved: ");
-    at = put_what(desk, out, at);
-    at
+pub fn put_risk(desk: Desk, out: &mut Out) {
+    out.put(b"not saved: ");
+    put_what(desk, out);
 }
 
 // Ends, where nothing would be lost.
@@ -256,12 +252,12 @@ pub(crate) fn quit(desk: Desk, number: u64, out: &mut Out) -> Desk {
     if desk.spoken {
         if !desk.bold {
             if is_at_risk(desk) {
-                let mut at = put(out, desk.used, b"error");
-                at = put_next(out, at, number);
-                at = put_byte(out, at, 32);
-                at = put_risk(desk, out, at);
-                at = put(out, at, b": save FILE, or say quit! to end all the same\n");
-                return failed(desk, at);
+                out.put(b"error");
+                out.put_next(number);
+                out.put_byte(b' ');
+                put_risk(desk, out);
+                out.put(b": save FILE, or say quit! to end all the same\n");
+                return failed(desk);
             }
         }
     }

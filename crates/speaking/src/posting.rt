@@ -1,6 +1,6 @@
 // A message that comes in, by names or numbers.
 use commands::Trouble;
-use drawing::{Out, put, put_byte, put_next, put_refusal, unended};
+use drawing::Out;
 use machine::{Message, State};
 use names::Stands;
 use papers::{Desk, changed, failed, refused};
@@ -97,21 +97,15 @@ fn reply_of(names: &[u8; 16896], line: &[u8], w: Word) -> Next {
 }
 
 // What becomes of a message that waits now.
-fn put_fate(out: &mut Out, used: usize, table: &Table, activities: usize, m: Message) -> usize {
+fn put_fate(out: &mut Out, table: &Table, activities: usize, m: Message) {
     if !telling::is_received(table, activities, m.partner) {
-        return put(
-            out,
-            used,
-            b"; the plan never receives on this partner, so it leaves by collect",
-        );
+        out.put(b"; the plan never receives on this partner, so it leaves by collect");
+    } else if telling::is_taken(table, activities, m.partner, m.operation, m.count) {} else {
+        out.put(b"; no receive of the plan takes it");
     }
-    if telling::is_taken(table, activities, m.partner, m.operation, m.count) {
-        return used;
-    }
-    put(out, used, b"; no receive of the plan takes it")
 }
 
-fn put_waits(out: &mut Out, used: usize, names: &[u8; 16896], state: State, m: Message) -> usize {
+fn put_waits(out: &mut Out, names: &[u8; 16896], state: State, m: Message) {
     let mut table = [0u32; LENGTH];
     let mut flags = [0u8; 16];
     let a = machine::limits::planned(state, &mut table, &mut flags);
@@ -119,16 +113,16 @@ fn put_waits(out: &mut Out, used: usize, names: &[u8; 16896], state: State, m: M
         Answer::Refused {
             number: _,
             place: _,
-        } => used,
+        } => {}
         Answer::Accepted {
             variables: _,
             activities,
             nodes: _,
         } => {
-            let mut at = telling::put_letter(out, used, names, &table, activities, m);
-            at = put(out, at, b"; waits at place");
-            at = put_next(out, at, state.waiting as u64);
-            put_fate(out, at, &table, activities, m)
+            telling::put_letter(out, names, &table, activities, m);
+            out.put(b"; waits at place");
+            out.put_next(state.waiting as u64);
+            put_fate(out, &table, activities, m);
         }
     }
 }
@@ -136,28 +130,28 @@ fn put_waits(out: &mut Out, used: usize, names: &[u8; 16896], state: State, m: M
 fn posted(desk: Desk, m: Message, names: &[u8; 16896], out: &mut Out) -> Desk {
     let before = desk.state;
     let p = mail::post(before, m);
-    let at = put_refusal(out, desk.used, b"post", p.refusal);
-    let at = unended(out, at);
+    out.put_refusal(b"post", p.refusal);
+    out.go_on();
     if p.refusal != 0 {
-        let used = sayings::put_refused(out, at, p.refusal);
-        return refused(desk, used, p.refusal);
+        sayings::put_refused(out, p.refusal);
+        return refused(desk, p.refusal);
     }
-    let mut used = put(out, at, b" - ");
-    used = put_waits(out, used, names, before, m);
-    used = put_byte(out, used, 10);
+    out.put(b" - ");
+    put_waits(out, names, before, m);
+    out.put_byte(b'\n');
     let state = p.state;
     let tally = desk.tally;
-    changed(desk, state, tally, desk.plan, used)
+    changed(desk, state, tally, desk.plan)
 }
 
 // A name that nobody has.
 fn unnamed(desk: Desk, number: u64, word: &[u8], out: &mut Out) -> Desk {
-    let mut at = put(out, desk.used, b"error");
-    at = put_next(out, at, number);
-    at = put(out, at, b" no such name: ");
-    at = put(out, at, word);
-    at = put_byte(out, at, 10);
-    failed(desk, at)
+    out.put(b"error");
+    out.put_next(number);
+    out.put(b" no such name: ");
+    out.put(word);
+    out.put_byte(b'\n');
+    failed(desk)
 }
 
 // Posts a message by its numbers, so many of them; its partner to reply to stands behind the word `reply` of the line.

@@ -1,6 +1,6 @@
 // What changes nothing, told in words: the messages that wait, the tally, what is offered, orders, drawings and bytes.
 use super::keeping::activities_of;
-use drawing::{Out, put, put_aligned, put_byte, put_next, put_number, put_refusal, unended};
+use drawing::Out;
 use machine::{Message, State, Tally};
 use papers::{Desk, refused};
 use plan::Answer;
@@ -9,10 +9,10 @@ use sayings::put_refused;
 
 // A state without a plan has no such thing.
 fn planless(desk: Desk, word: &[u8], out: &mut Out) -> Desk {
-    let mut at = put_refusal(out, desk.used, word, 17);
-    at = unended(out, at);
-    at = put_refused(out, at, 17);
-    refused(desk, at, 17)
+    out.put_refusal(word, 17);
+    out.go_on();
+    put_refused(out, 17);
+    refused(desk, 17)
 }
 
 fn has_plan(desk: Desk) -> bool {
@@ -49,9 +49,9 @@ pub(crate) fn drawn(
     if has_plan(desk) {
         return d;
     }
-    let mut at = unended(out, d.used);
-    at = put(out, at, b" - there is no plan: write one\n");
-    refused(d, at, 2)
+    out.go_on();
+    out.put(b" - there is no plan: write one\n");
+    refused(d, 2)
 }
 
 // The bytes of an activity, or why there are none.
@@ -73,24 +73,24 @@ pub(crate) fn shown(
     if n < activities_of(state) {
         return d;
     }
-    let at = unended(out, d.used);
-    let used = put_refused(out, at, 16);
-    refused(d, used, 16)
+    out.go_on();
+    put_refused(out, 16);
+    refused(d, 16)
 }
 
-fn put_choices(out: &mut Out, used: usize, many: usize, held: bool) -> usize {
-    let mut at = unended(out, used);
-    at = put(out, at, b" - ");
-    at = put_number(out, at, many as u64);
+fn put_choices(out: &mut Out, many: usize, held: bool) {
+    out.go_on();
+    out.put(b" - ");
+    out.put_number(many as u64);
     if many == 1 {
-        at = put(out, at, b" choice");
+        out.put(b" choice");
     } else {
-        at = put(out, at, b" choices");
+        out.put(b" choices");
     }
     if held {
-        at = put(out, at, b", and something is held");
+        out.put(b", and something is held");
     }
-    put_byte(out, at, 10)
+    out.put_byte(b'\n');
 }
 
 // What is offered, as numbers, with how much that is.
@@ -108,83 +108,80 @@ pub(crate) fn offer(
     let state = desk.state;
     let o = offer::offers(state);
     let d = console::answer(desk, line, number, bytes, names, out);
-    let used = put_choices(out, d.used, o.many, o.held);
-    papers::shown(d, used)
+    put_choices(out, o.many, o.held);
+    d
 }
 
-fn put_counts(out: &mut Out, used: usize, tally: Tally) -> usize {
-    let mut at = unended(out, used);
-    at = put(out, at, b" -");
-    at = put_next(out, at, tally.started as u64);
-    at = put(out, at, b" started; ended:");
-    at = put_next(out, at, tally.well as u64);
-    at = put(out, at, b" well,");
-    at = put_next(out, at, tally.handled as u64);
-    at = put(out, at, b" handled,");
-    at = put_next(out, at, tally.failed as u64);
-    at = put(out, at, b" failed,");
-    at = put_next(out, at, tally.left as u64);
-    put(out, at, b" left\n")
+fn put_counts(out: &mut Out, tally: Tally) {
+    out.go_on();
+    out.put(b" -");
+    out.put_next(tally.started as u64);
+    out.put(b" started; ended:");
+    out.put_next(tally.well as u64);
+    out.put(b" well,");
+    out.put_next(tally.handled as u64);
+    out.put(b" handled,");
+    out.put_next(tally.failed as u64);
+    out.put(b" failed,");
+    out.put_next(tally.left as u64);
+    out.put(b" left\n");
 }
 
 pub(crate) fn tally(desk: Desk, out: &mut Out) -> Desk {
     let tally = desk.tally;
-    let at = console::put_tally(out, desk.used, tally);
-    let used = put_counts(out, at, tally);
-    papers::shown(desk, used)
+    console::put_tally(out, tally);
+    put_counts(out, tally);
+    desk
 }
 
 // What becomes of a message.
-fn put_fate(out: &mut Out, used: usize, table: &Table, activities: usize, m: Message) -> usize {
+fn put_fate(out: &mut Out, table: &Table, activities: usize, m: Message) {
     if !telling::is_received(table, activities, m.partner) {
-        return put(out, used, b"; leaves by collect\n");
+        out.put(b"; leaves by collect\n");
+    } else if telling::is_taken(table, activities, m.partner, m.operation, m.count) {
+        out.put_byte(b'\n');
+    } else {
+        out.put(b"; no receive of the plan takes it\n");
     }
-    if telling::is_taken(table, activities, m.partner, m.operation, m.count) {
-        return put_byte(out, used, 10);
-    }
-    put(out, used, b"; no receive of the plan takes it\n")
 }
 
 // A message that waits: its place, its numbers, and words.
 fn put_one(
     out: &mut Out,
-    used: usize,
     names: &[u8; 16896],
     table: &Table,
     activities: usize,
     place: usize,
     m: Message,
-) -> usize {
-    let mut at = put_aligned(out, used, place as u64);
-    at = put_byte(out, at, 32);
-    at = wording::put_message(out, at, m);
-    at = put(out, at, b" - ");
-    at = telling::put_letter(out, at, names, table, activities, m);
-    put_fate(out, at, table, activities, m)
+) {
+    out.put_aligned(place as u64);
+    out.put_byte(b' ');
+    wording::put_message(out, m);
+    out.put(b" - ");
+    telling::put_letter(out, names, table, activities, m);
+    put_fate(out, table, activities, m);
 }
 
 fn put_all(
     out: &mut Out,
-    used: usize,
     names: &[u8; 16896],
     table: &Table,
     activities: usize,
     messages: [Message; 64],
     waiting: usize,
-) -> usize {
-    let mut at = used;
+) {
     let mut i = 0;
     while i < 64 {
         if i < waiting {
             let m = messages[i];
-            at = put_one(out, at, names, table, activities, i, m);
+            put_one(out, names, table, activities, i, m);
         }
         i += 1;
     }
-    put_byte(out, at, 10)
+    out.put_byte(b'\n');
 }
 
-fn put_waiting(out: &mut Out, used: usize, names: &[u8; 16896], state: State) -> usize {
+fn put_waiting(out: &mut Out, names: &[u8; 16896], state: State) {
     let mut table = [0u32; LENGTH];
     let mut flags = [0u8; 16];
     let messages = state.messages;
@@ -193,29 +190,21 @@ fn put_waiting(out: &mut Out, used: usize, names: &[u8; 16896], state: State) ->
         Answer::Refused {
             number: _,
             place: _,
-        } => put_byte(out, used, 10),
+        } => out.put_byte(b'\n'),
         Answer::Accepted {
             variables: _,
             activities,
             nodes: _,
-        } => put_all(
-            out,
-            used,
-            names,
-            &table,
-            activities,
-            messages,
-            state.waiting,
-        ),
+        } => put_all(out, names, &table, activities, messages, state.waiting),
     }
 }
 
 // The messages that wait, a line for each, and a blank line.
 pub(crate) fn waiting(desk: Desk, names: &[u8; 16896], out: &mut Out) -> Desk {
     let state = desk.state;
-    let mut at = put(out, desk.used, b"waiting");
-    at = put_next(out, at, state.waiting as u64);
-    at = put_byte(out, at, 10);
-    let used = put_waiting(out, at, names, state);
-    papers::shown(desk, used)
+    out.put(b"waiting");
+    out.put_next(state.waiting as u64);
+    out.put_byte(b'\n');
+    put_waiting(out, names, state);
+    desk
 }
