@@ -3,7 +3,7 @@
 use super::ordinary::Kind;
 use super::{not_done, ordinary, retaining};
 use drawing::Out;
-use papers::{Desk, failed, name_with, replaced_by, system};
+use papers::{Desk, name_with, replaced_by, system};
 use std::fs::File;
 use std::os::fd::AsRawFd;
 
@@ -11,9 +11,9 @@ use std::os::fd::AsRawFd;
 const MANY_FILES: i32 = 24;
 
 // The page in a file that is open, and on disk; or the reason why not.
-fn written(runtime: HostRuntime, file: File, desk: Desk, names: &[u8; 16896]) -> Result<(), i32> {
+fn written(runtime: HostRuntime, file: File, desk: &Desk) -> Result<(), i32> {
     let mut sheet = Out::page(file, runtime);
-    page::put_page(&mut sheet, names, desk.state, desk.tally);
+    page::put_page(&mut sheet, &desk.names, desk.state, desk.tally);
     sheet.flush();
     match sheet.lost() {
         Some(reason) => Err(reason),
@@ -22,94 +22,84 @@ fn written(runtime: HostRuntime, file: File, desk: Desk, names: &[u8; 16896]) ->
 }
 
 // The same, and the file is closed. A page is put through a descriptor from 1 to 255: 0 would be standard input, and beyond there are too many.
-fn written_whole(
-    runtime: HostRuntime,
-    file: File,
-    desk: Desk,
-    names: &[u8; 16896],
-) -> Result<(), i32> {
+fn written_whole(runtime: HostRuntime, file: File, desk: &Desk) -> Result<(), i32> {
     match file.as_raw_fd() {
-        1..=255 => written(runtime, file, desk, names),
+        1..=255 => written(runtime, file, desk),
         _ => Err(MANY_FILES),
     }
 }
 
 // The page in a new file, which then takes the name of the old one; or the reason why not.
-fn replaced(runtime: HostRuntime, file: &[u8], desk: Desk, names: &[u8; 16896]) -> Result<(), i32> {
+fn replaced(runtime: HostRuntime, file: &[u8], desk: &Desk) -> Result<(), i32> {
     let mut new = name_with(runtime, file, b".XXXXXX").map_err(system::no_memory)?;
     let made = system::create_temp(runtime, &mut new)?;
-    let written = written_whole(runtime, made, desk, names);
+    let written = written_whole(runtime, made, desk);
     replaced_by(runtime, &new, file, written)
 }
 
 // The page takes the name, whatever has it.
-fn made(desk: Desk, file: &[u8], number: u64, names: &[u8; 16896], out: &mut Out) -> Desk {
-    if let Err(reason) = replaced(out.runtime(), file, desk, names) {
-        papers::put_failed(out, number, b"write the page", reason);
-        return failed(desk);
+fn made(desk: &mut Desk, file: &[u8], number: u64) {
+    if let Err(reason) = replaced(desk.out.runtime(), file, desk) {
+        papers::put_failed(&mut desk.out, number, b"write the page", reason);
+        desk.fail();
+    } else {
+        desk.out.put_refusal(b"page", 0);
     }
-    out.put_refusal(b"page", 0);
-    desk
 }
 
 // The page over a file that is none, which stays as FILE.old; only where that is said.
-fn over_other(
-    desk: Desk,
-    file: &[u8],
-    number: u64,
-    names: &[u8; 16896],
-    why: &[u8],
-    out: &mut Out,
-) -> Desk {
+fn over_other(desk: &mut Desk, file: &[u8], number: u64, why: &[u8]) {
     if !desk.bold {
-        return not_done(desk, number, why, out);
+        not_done(desk, number, why);
+    } else if let Err(reason) = retaining::retained(desk.out.runtime(), file) {
+        papers::put_failed(
+            &mut desk.out,
+            number,
+            b"keep what it holds as FILE.old",
+            reason,
+        );
+        desk.fail();
+    } else {
+        made(desk, file, number);
     }
-    if let Err(reason) = retaining::retained(out.runtime(), file) {
-        papers::put_failed(out, number, b"keep what it holds as FILE.old", reason);
-        return failed(desk);
-    }
-    made(desk, file, number, names, out)
 }
 
 // The page over an ordinary file without a saved plan: one that is a page is made anew.
-fn over_ordinary(desk: Desk, file: &[u8], number: u64, names: &[u8; 16896], out: &mut Out) -> Desk {
-    if ordinary::is_page(out.runtime(), file) {
-        return made(desk, file, number, names, out);
-    }
-    over_other(
-        desk,
-        file,
-        number,
-        names,
-        b"cannot write the page: the file is no page of the desk: say page! to replace it",
-        out,
-    )
-}
-
-// The state as a page.
-pub fn page(desk: Desk, file: &[u8], number: u64, names: &[u8; 16896], out: &mut Out) -> Desk {
-    if !desk.spoken {
-        return made(desk, file, number, names, out);
-    }
-    let k = ordinary::kind_of(out.runtime(), file);
-    match k {
-        Kind::Nothing => made(desk, file, number, names, out),
-        Kind::Ordinary => over_ordinary(desk, file, number, names, out),
-        Kind::Plan => over_other(
+fn over_ordinary(desk: &mut Desk, file: &[u8], number: u64) {
+    if ordinary::is_page(desk.out.runtime(), file) {
+        made(desk, file, number);
+    } else {
+        over_other(
             desk,
             file,
             number,
-            names,
-            b"cannot write the page: the file holds a saved plan: say page! to replace it",
-            out,
-        ),
-        Kind::Folder => not_done(desk, number, b"cannot write the page: it is a folder", out),
-        Kind::Link => not_done(desk, number, b"cannot write the page: it is a link", out),
-        Kind::Other => not_done(
-            desk,
-            number,
-            b"cannot write the page: it is no ordinary file",
-            out,
-        ),
+            b"cannot write the page: the file is no page of the desk: say page! to replace it",
+        );
+    }
+}
+
+// The state as a page.
+pub fn page(desk: &mut Desk, file: &[u8], number: u64) {
+    if !desk.spoken {
+        made(desk, file, number);
+    } else {
+        let k = ordinary::kind_of(desk.out.runtime(), file);
+        match k {
+            Kind::Nothing => made(desk, file, number),
+            Kind::Ordinary => over_ordinary(desk, file, number),
+            Kind::Plan => over_other(
+                desk,
+                file,
+                number,
+                b"cannot write the page: the file holds a saved plan: say page! to replace it",
+            ),
+            Kind::Folder => not_done(desk, number, b"cannot write the page: it is a folder"),
+            Kind::Link => not_done(desk, number, b"cannot write the page: it is a link"),
+            Kind::Other => not_done(
+                desk,
+                number,
+                b"cannot write the page: it is no ordinary file",
+            ),
+        }
     }
 }

@@ -46,7 +46,10 @@ fn is_earned(table: &Table, correlation: &[u8; 16], n: usize, what: u32) -> bool
 }
 
 fn put_variable_words(out: &mut Out, names: &[u8; 16896], what: u32) {
-    if what < 16 {} else if what < 32 {
+    if what < 16 {
+        return;
+    }
+    if what < 32 {
         put_variable(out, names, what - 16);
         out.put(b" is unbound here: nothing before it binds it, so this faults");
     } else {

@@ -1,7 +1,7 @@
 // What is wrong with a line.
 use commands::Trouble;
 use drawing::Out;
-use papers::{Desk, failed};
+use papers::Desk;
 
 fn put_trouble(out: &mut Out, number: u64, why: Trouble) {
     match why {
@@ -14,7 +14,7 @@ fn put_trouble(out: &mut Out, number: u64, why: Trouble) {
 }
 
 // The line with this number is wrong.
-pub fn wrong(desk: Desk, number: u64, why: Trouble, out: &mut Out) -> Desk {
-    put_trouble(out, number, why);
-    failed(desk)
+pub fn wrong(desk: &mut Desk, number: u64, why: Trouble) {
+    put_trouble(&mut desk.out, number, why);
+    desk.fail();
 }

@@ -5,7 +5,7 @@ use commands::Trouble;
 use drawing::Out;
 use machine::{Collected, Message, State, Step, Tally};
 use order::End;
-use papers::{Desk, changed};
+use papers::Desk;
 use run::Ran;
 use text::Word;
 use wording::put_message;
@@ -29,46 +29,46 @@ pub fn message_of(numbers: &[u32; 1001], count: usize, reply: u32) -> Message {
     }
 }
 
-fn posted(desk: Desk, m: Message, out: &mut Out) -> Desk {
+fn posted(desk: &mut Desk, m: Message) {
     let before = desk.state;
     let p = mail::post(before, m);
-    out.put_refusal(b"post", p.refusal);
+    desk.out.put_refusal(b"post", p.refusal);
     let state = p.state;
     let tally = desk.tally;
-    changed(desk, state, tally, desk.plan)
+    desk.change(state, tally);
 }
 
 // Posts a message by its numbers, so many of them; its partner to reply to stands behind the word `reply` of the line.
 fn posted_with(
-    desk: Desk,
+    desk: &mut Desk,
     line: &[u8],
     reply: Word,
     number: u64,
     numbers: &[u32; 1001],
     count: usize,
-    out: &mut Out,
-) -> Desk {
+) {
     if count < 2 {
-        return wrong(desk, number, Trouble::Missing, out);
-    }
-    let r = reply_of(line, reply);
-    match r {
-        Reply::Wrong { why } => wrong(desk, number, why, out),
-        Reply::Partner { number: partner } => {
-            let m = message_of(numbers, count - 2, partner);
-            posted(desk, m, out)
+        wrong(desk, number, Trouble::Missing);
+    } else {
+        let r = reply_of(line, reply);
+        match r {
+            Reply::Wrong { why } => wrong(desk, number, why),
+            Reply::Partner { number: partner } => {
+                let m = message_of(numbers, count - 2, partner);
+                posted(desk, m);
+            }
         }
     }
 }
 
 // Posts a message: a partner, an operation, and up to eight values; then the partner to reply to, where one is named.
-pub(crate) fn post(desk: Desk, line: &[u8], from: usize, number: u64, out: &mut Out) -> Desk {
+pub(crate) fn post(desk: &mut Desk, line: &[u8], from: usize, number: u64) {
     let mut numbers = [0u32; 1001];
     let reply = reply_in(line, from);
     let n = numbers_of(before(line, reply.from), from, 11, &mut numbers);
     match n {
-        Numbers::Wrong { why } => wrong(desk, number, why, out),
-        Numbers::All { count } => posted_with(desk, line, reply, number, &numbers, count, out),
+        Numbers::Wrong { why } => wrong(desk, number, why),
+        Numbers::All { count } => posted_with(desk, line, reply, number, &numbers, count),
     }
 }
 
@@ -106,15 +106,15 @@ pub fn put_step(out: &mut Out, x: Step) {
     out.put_byte(b'\n');
 }
 
-pub(crate) fn step(desk: Desk, choice: u32, out: &mut Out) -> Desk {
+pub(crate) fn step(desk: &mut Desk, choice: u32) {
     let before = desk.state;
     let counted = desk.tally;
     let r = step::take_step(before, choice as usize, counted);
     let x = r.answer;
     let state = r.state;
     let tally = r.tally;
-    put_step(out, x);
-    changed(desk, state, tally, desk.plan)
+    put_step(&mut desk.out, x);
+    desk.change(state, tally);
 }
 
 fn ran_of(state: State, tally: Tally, choices: &[usize], n: usize, budget: u32) -> Ran {
@@ -125,28 +125,26 @@ fn ran_of(state: State, tally: Tally, choices: &[usize], n: usize, budget: u32) 
     run::run(state, choices, &mut left, tally)
 }
 
-fn ran_by(desk: Desk, choices: &[usize; 1000], n: usize, budget: u32, out: &mut Out) -> Desk {
+fn ran_by(desk: &mut Desk, choices: &[usize; 1000], n: usize, budget: u32) {
     let before = desk.state;
     let counted = desk.tally;
     let r = ran_of(before, counted, choices, n, budget);
     let state = r.state;
     let tally = r.tally;
-    out.put_pair(b"run", r.taken as u64, r.refusal as u64);
-    changed(desk, state, tally, desk.plan)
+    desk.out.put_pair(b"run", r.taken as u64, r.refusal as u64);
+    desk.change(state, tally);
 }
 
 // Takes steps by a budget and up to 1,000 choices.
-pub(crate) fn run(desk: Desk, line: &[u8], from: usize, number: u64, out: &mut Out) -> Desk {
+pub(crate) fn run(desk: &mut Desk, line: &[u8], from: usize, number: u64) {
     let mut numbers = [0u32; 1001];
     let n = numbers_of(line, from, 1002, &mut numbers);
     match n {
-        Numbers::Wrong { why } => wrong(desk, number, why, out),
+        Numbers::Wrong { why } => wrong(desk, number, why),
+        Numbers::All { count: 0 } => wrong(desk, number, Trouble::Missing),
         Numbers::All { count } => {
-            if count < 1 {
-                return wrong(desk, number, Trouble::Missing, out);
-            }
             let choices = rest_of(&numbers);
-            ran_by(desk, &choices, count - 1, numbers[0], out)
+            ran_by(desk, &choices, count - 1, numbers[0]);
         }
     }
 }
@@ -164,13 +162,13 @@ pub fn put_collected(out: &mut Out, word: &[u8], c: Collected) {
     out.put_byte(b'\n');
 }
 
-pub(crate) fn collect(desk: Desk, out: &mut Out) -> Desk {
+pub(crate) fn collect(desk: &mut Desk) {
     let before = desk.state;
     let c = mail::collect(before);
-    put_collected(out, b"collect", c);
+    put_collected(&mut desk.out, b"collect", c);
     let state = c.state;
     let tally = desk.tally;
-    changed(desk, state, tally, desk.plan)
+    desk.change(state, tally);
 }
 
 // The five counts.

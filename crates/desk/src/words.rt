@@ -3,9 +3,8 @@ use drawing::write_all;
 use std::env::FillError;
 use std::io::IsTerminal;
 use std::rt::Env;
-use text::same;
 
-#[derive(Clone, Copy)]
+#[derive(Clone, Copy, Default)]
 pub struct Words {
     pub echo: bool,
     pub plain: bool,
@@ -15,61 +14,37 @@ pub struct Words {
     pub unknown: bool,
 }
 
-fn with(w: Words, word: &[u8]) -> Words {
-    let mut v = w;
-    if same(word, b"echo") {
-        v.echo = true;
-    } else if same(word, b"plain") {
-        v.plain = true;
-    } else if same(word, b"strict") {
-        v.strict = true;
-    } else if same(word, b"--help") {
-        v.help = true;
-    } else if same(word, b"--version") {
-        v.version = true;
-    } else {
-        v.unknown = true;
-    }
-    v
-}
-
-// The words up to number i, and that one, where there is one. One that is longer than any of these is unknown.
-fn with_word(runtime: HostRuntime, w: Words, i: usize) -> Option<Words> {
-    let mut word = [0u8; 16];
-    match runtime.arg(i, &mut word) {
-        Ok(n) => Some(with(w, &word[..n])),
-        Err(FillError::TooLong) => Some(with(w, b"")),
-        Err(FillError::NotPresent) => None,
-    }
-}
-
-// All words behind the program's name.
-pub fn given(runtime: HostRuntime) -> Words {
-    let mut w = Words {
-        echo: false,
-        plain: false,
-        strict: false,
-        help: false,
-        version: false,
-        unknown: false,
-    };
-    let mut i = 1;
-    while i < usize::MAX {
-        match with_word(runtime, w, i) {
-            Some(v) => w = v,
-            None => return w,
+impl Words {
+    // One word more.
+    fn add(&mut self, word: &[u8]) {
+        match word {
+            b"echo" => self.echo = true,
+            b"plain" => self.plain = true,
+            b"strict" => self.strict = true,
+            b"--help" => self.help = true,
+            b"--version" => self.version = true,
+            _ => self.unknown = true,
         }
-        i += 1;
+    }
+}
+
+// All words behind the program's name. One that is longer than any that it takes is unknown.
+pub fn given(runtime: HostRuntime) -> Words {
+    let mut w = Words::default();
+    let mut word = [0u8; 16];
+    for i in 1..usize::MAX {
+        match runtime.arg(i, &mut word) {
+            Ok(n) => w.add(&word[..n]),
+            Err(FillError::TooLong) => w.add(b""),
+            Err(FillError::NotPresent) => return w,
+        }
     }
     w
 }
 
 // Whether a person types the commands and reads the answers: both are a terminal.
 pub fn is_typed(runtime: HostRuntime) -> bool {
-    if runtime.stdin().is_terminal() {
-        return runtime.stdout().is_terminal();
-    }
-    false
+    runtime.stdin().is_terminal() && runtime.stdout().is_terminal()
 }
 
 // Why the desk stopped, on standard error.

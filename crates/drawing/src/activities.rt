@@ -126,7 +126,7 @@ fn put_held_send(
     put_member(out, names, correlation, entry(table, n, VARIABLE));
     put_about(out, names, table, correlation, n);
     let reply = entry(table, n, PARTNER);
-    if reply == 0 {} else {
+    if reply != 0 {
         out.put(b" with reply to partner ");
         put_partner(out, names, reply);
     }

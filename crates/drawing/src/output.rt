@@ -1,10 +1,9 @@
 // What is written, gathered so that it is written in large pieces. From where something could not be written on, nothing is put.
 //
 // An `Out` holds where it goes and how, too. So whatever puts words puts them into a page as well.
-ghost use Rattle.std.specs.Prelude.{◌≡◌, ◌≤◌};
-
+use arrayvec::ArrayVec;
 use std::fs::File;
-use std::io::{self, Error, Write};
+use std::io::{Error, Write};
 
 // How many bytes may wait.
 const ROOM: usize = 4094;
@@ -17,17 +16,15 @@ enum How {
     Counted,
 }
 
-// What waits, the first `used` bytes; how it is put; the file that it is written to, standard output where there is none; why it could not be written, where
+// What waits; how it is put; the file that it is written to, standard output where there is none; why it could not be written, where
 // it could not; and the runtime by which it is written, and by which whoever has an `Out` reaches files.
 #[derive(Drop)]
 pub struct Out {
-    bytes: [u8; 4096],
-    used: usize,
+    bytes: ArrayVec<u8, ROOM>,
     how: How,
     to: Option<File>,
     lost: Option<i32>,
     runtime: HostRuntime,
-    ghost fits: { used ≤ 4094 },
 }
 
 // Why a call of the system failed; 5, an error of the device, where it left no reason.
@@ -55,8 +52,7 @@ pub fn write_all<W: Write>(to: &mut W, bytes: &[u8]) -> Result<(), i32> {
 impl Out {
     fn made(how: How, to: Option<File>, runtime: HostRuntime) -> Out {
         Out {
-            bytes: [0u8; 4096],
-            used: 0,
+            bytes: ArrayVec::new(),
             how,
             to,
             lost: None,
@@ -86,12 +82,12 @@ impl Out {
 
     // What waits.
     pub fn waiting(&self) -> &[u8] {
-        &self.bytes[..self.used]
+        self.bytes.as_slice()
     }
 
     // How many bytes wait: of an `Out` that measures, how long what was put is, as far as there is room.
     pub fn len(&self) -> usize {
-        self.used
+        self.bytes.len()
     }
 
     // Why what an `Out` has could not be written, where it could not.
@@ -120,24 +116,21 @@ impl Out {
     }
 
     // Writes what waits.
-    pub fn flush(&mut self)
-        ensures { self.new.used ≡ 0 }
-    {
-        if self.used == 0 {
+    pub fn flush(&mut self) {
+        if self.bytes.is_empty() {
             return;
         }
         self.lost = self.write_out().err();
-        self.used = 0;
+        self.bytes.clear();
     }
 
     // A byte as it is.
     fn put_plain(&mut self, b: u8) {
-        if ROOM <= self.used {
+        if self.bytes.is_full() {
             self.flush();
         }
         if self.lost.is_none() {
-            self.bytes[self.used] = b;
-            self.used += 1;
+            let _ = self.bytes.try_push(b);
         }
     }
 
@@ -161,18 +154,13 @@ impl Out {
         }
     }
 
-    // One byte more, as far as there is room.
-    fn count(&mut self) {
-        if self.used < ROOM {
-            self.used += 1;
-        }
-    }
-
     pub fn put_byte(&mut self, b: u8) {
         match self.how {
             How::Plain => self.put_plain(b),
             How::WithinMarkup => self.put_within(b),
-            How::Counted => self.count(),
+            How::Counted => {
+                let _ = self.bytes.try_push(b);
+            }
         }
     }
 
@@ -192,8 +180,8 @@ impl Out {
 
     // A line goes on: of what waits, the line end that it ends in goes.
     pub fn go_on(&mut self) {
-        if 0 < self.used && self.bytes[self.used - 1] == b'\n' {
-            self.used -= 1;
+        if self.bytes.last() == Some(&b'\n') {
+            self.bytes.pop();
         }
     }
 

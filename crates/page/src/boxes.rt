@@ -72,7 +72,7 @@ fn put_turn(out: &mut Out, order: Order, n: usize) {
     out.put(b", undo ");
     out.put_number(turn as u64);
     let times = times_of(order, n);
-    if times == 1 {} else {
+    if times != 1 {
         out.put(b" (");
         out.put_number(times);
         out.put(b" times)");

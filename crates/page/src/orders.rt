@@ -97,7 +97,7 @@ fn put_closing(
     turn: usize,
     order: Order,
 ) {
-    if order.kept < turn {} else {
+    if turn <= order.kept {
         out.put_markup(b"<li class=\"lines\">");
         put_undone(out, names, table, flags, order.kept - turn, order);
         out.put_markup(b"</li>\n");

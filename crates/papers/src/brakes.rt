@@ -1,5 +1,5 @@
 // Brakes: where orders are live or messages wait, a desk that speaks to a person does not drop them unless it is told to.
-use super::{Desk, failed};
+use super::Desk;
 use drawing::Out;
 use order::Order;
 
@@ -26,7 +26,7 @@ pub fn live_in(orders: [Order; 16]) -> usize {
 }
 
 // What there is to lose: live orders, and messages that wait.
-fn stock_of(desk: Desk) -> usize {
+fn stock_of(desk: &Desk) -> usize {
     let state = desk.state;
     let orders = state.orders;
     let live = live_in(orders);
@@ -37,7 +37,7 @@ fn stock_of(desk: Desk) -> usize {
 }
 
 // Whether the desk has brakes now: it speaks to a person, was not told otherwise, and has something to lose.
-pub fn is_braked(desk: Desk) -> bool {
+pub fn is_braked(desk: &Desk) -> bool {
     if desk.spoken {
         if !desk.bold {
             return 0 < stock_of(desk);
@@ -69,7 +69,7 @@ pub fn put_lost(out: &mut Out, live: usize, waiting: usize) {
         put_waiting(out, waiting);
     } else {
         put_live(out, live);
-        if waiting == 0 {} else {
+        if waiting != 0 {
             out.put(b", ");
             put_waiting(out, waiting);
         }
@@ -77,15 +77,15 @@ pub fn put_lost(out: &mut Out, live: usize, waiting: usize) {
 }
 
 // The answer of a desk that has brakes: what would be lost, and how to say that it may be.
-pub fn braked(desk: Desk, number: u64, word: &[u8], out: &mut Out) -> Desk {
+pub fn braked(desk: &mut Desk, number: u64, word: &[u8]) {
     let state = desk.state;
     let orders = state.orders;
-    out.put(b"error");
-    out.put_next(number);
-    out.put_byte(b' ');
-    put_lost(out, live_in(orders), state.waiting);
-    out.put(b": say ");
-    out.put(word);
-    out.put(b"! to drop them\n");
-    failed(desk)
+    desk.out.put(b"error");
+    desk.out.put_next(number);
+    desk.out.put_byte(b' ');
+    put_lost(&mut desk.out, live_in(orders), state.waiting);
+    desk.out.put(b": say ");
+    desk.out.put(word);
+    desk.out.put(b"! to drop them\n");
+    desk.fail();
 }

@@ -1,5 +1,5 @@
 // What may be wrong with the last plan, by the crate checking: the command check, and the warnings alone, for what follows a plan that is taken.
-use super::Desk;
+use super::{Desk, first};
 use checking::{put_check, put_warnings};
 use drawing::Out;
 use plan::Answer;
@@ -41,20 +41,14 @@ fn put_checked(s: &[u8], names: &[u8; 16896], asked: bool, out: &mut Out) {
     }
 }
 
-fn check_of(bytes: &[u8], plan: usize, names: &[u8; 16896], asked: bool, out: &mut Out) {
-    if plan <= bytes.len() {
-        put_checked(&bytes[0..plan], names, asked, out);
-    }
-}
-
 // The answer to a check of the last plan.
-pub fn check(desk: Desk, bytes: &[u8; 8000], names: &[u8; 16896], out: &mut Out) -> Desk {
-    check_of(bytes, desk.plan, names, true, out);
-    desk
+pub fn check(desk: &mut Desk) {
+    let plan = first(&desk.bytes, desk.plan);
+    put_checked(plan, &desk.names, true, &mut desk.out);
 }
 
 // The warnings of the last plan alone; nothing where it has none, or is refused.
-pub fn warn(desk: Desk, bytes: &[u8; 8000], names: &[u8; 16896], out: &mut Out) -> Desk {
-    check_of(bytes, desk.plan, names, false, out);
-    desk
+pub fn warn(desk: &mut Desk) {
+    let plan = first(&desk.bytes, desk.plan);
+    put_checked(plan, &desk.names, false, &mut desk.out);
 }

@@ -1,7 +1,7 @@
 // A state with its tally and its names in a file: save and open.
 use super::sums::sum_of;
 use super::writing::forget;
-use super::{Desk, changed, failed, sealed, system};
+use super::{Desk, Filed, Said, sealed, system};
 use drawing::Out;
 use machine::State;
 use plan::Answer;
@@ -100,56 +100,45 @@ fn saved(runtime: HostRuntime, file: &[u8], packed: &[u8]) -> Result<(), i32> {
 }
 
 // What a save or an open comes to.
-fn told(desk: Desk, number: u64, word: &[u8], done: Result<(), i32>, out: &mut Out) -> Desk {
+fn told(desk: &mut Desk, number: u64, word: &[u8], done: Result<(), i32>) {
     match done {
-        Ok(()) => {
-            out.put_refusal(word, 0);
-            desk
-        }
+        Ok(()) => desk.out.put_refusal(word, 0),
         Err(reason) => {
-            put_failed(out, number, word, reason);
-            failed(desk)
+            put_failed(&mut desk.out, number, word, reason);
+            desk.fail();
         }
     }
 }
 
 // A desk whose state is in a file, if it is, by the sums of its name and of what it holds.
-fn filed(desk: Desk, file: u64, seen: u64) -> Desk {
-    let mut d = desk;
-    if d.said == 0 {
-        d.unsaved = false;
-        d.filed = true;
-        d.file = file;
-        d.seen = seen;
+fn filed(desk: &mut Desk, name: u64, held: u64) {
+    if desk.said == Said::Well {
+        desk.unsaved = false;
+        desk.filed = Some(Filed { name, held });
     }
-    d
 }
 
 // The bytes of a file that the desk saves.
-fn put_desk(desk: Desk, names: &[u8; 16896], file: &mut [u8]) {
+fn put_desk(desk: &Desk, file: &mut [u8]) {
     let mut packed = [0u8; 12748];
     let state = desk.state;
     let tally = desk.tally;
     store::pack(state, tally, &mut packed);
-    sealed::put_file(file, &packed, &names[..]);
+    sealed::put_file(file, &packed, &desk.names[..]);
 }
 
 // Saves the state, the tally and the names.
-pub fn save(desk: Desk, file: &[u8], number: u64, names: &[u8; 16896], out: &mut Out) -> Desk {
+pub fn save(desk: &mut Desk, file: &[u8], number: u64) {
     // what was answered before is written first: where it cannot be, nothing is made lasting
-    out.flush();
-    let before = desk;
-    if out.is_lost() {
-        return before;
+    desk.out.flush();
+    if desk.out.is_lost() {
+        return;
     }
     let mut bytes = [0u8; 29660];
-    put_desk(desk, names, &mut bytes);
-    let e = saved(out.runtime(), file, &bytes);
-    filed(
-        told(before, number, b"save", e, out),
-        sum_of(file),
-        sum_of(&bytes),
-    )
+    put_desk(desk, &mut bytes);
+    let done = saved(desk.out.runtime(), file, &bytes);
+    told(desk, number, b"save", done);
+    filed(desk, sum_of(file), sum_of(&bytes));
 }
 
 // Why nothing was read, where nothing was; a file in which nothing stands can be read.
@@ -192,49 +181,45 @@ pub(crate) fn copied(plan: &[u8; 4096], bytes: &mut [u8; 8000]) {
     bytes[..4096].copy_from_slice(plan);
 }
 
-fn put_foreign(desk: Desk, number: u64, out: &mut Out) -> Desk {
-    out.put_error(number, b"cannot open: it holds no saved state");
-    failed(desk)
+fn put_foreign(desk: &mut Desk, number: u64) {
+    desk.out
+        .put_error(number, b"cannot open: it holds no saved state");
+    desk.fail();
 }
 
 // The desk on a state that was kept. Its plan is the last plan.
-fn reopened(desk: Desk, kept: Kept, bytes: &mut [u8; 8000], out: &mut Out) -> Desk {
+fn reopened(desk: &mut Desk, kept: Kept) {
     let state = kept.state;
     let tally = kept.tally;
     let plan = state.plan;
-    copied(&plan, bytes);
-    out.put_refusal(b"open", 0);
-    changed(desk, state, tally, state.length)
+    copied(&plan, &mut desk.bytes);
+    desk.out.put_refusal(b"open", 0);
+    desk.plan = state.length;
+    desk.change(state, tally);
 }
 
-fn taken(
-    desk: Desk,
-    kept: Kept,
-    number: u64,
-    bytes: &mut [u8; 8000],
-    names: &mut [u8; 16896],
-    out: &mut Out,
-) -> Desk {
+fn taken(desk: &mut Desk, kept: Kept, number: u64) {
     if kept.refused {
-        return put_foreign(desk, number, out);
+        put_foreign(desk, number);
+    } else {
+        let state = kept.state;
+        if is_sound(state) {
+            let before = desk.state;
+            reopened(desk, kept);
+            forget(before, &desk.bytes, desk.plan, &mut desk.names);
+        } else {
+            put_foreign(desk, number);
+        }
     }
-    let state = kept.state;
-    if is_sound(state) {
-        let before = desk.state;
-        let d = reopened(desk, kept, bytes, out);
-        forget(before, bytes, d.plan, names);
-        return d;
-    }
-    put_foreign(desk, number, out)
 }
 
 // A file that a desk saved, or a state of a host's, and something is amiss with it.
-fn put_changed(desk: Desk, number: u64, out: &mut Out) -> Desk {
-    out.put_error(
+fn put_changed(desk: &mut Desk, number: u64) {
+    desk.out.put_error(
         number,
         b"cannot open: it was cut or changed since it was saved",
     );
-    failed(desk)
+    desk.fail();
 }
 
 // The state that bytes hold, of whatever version.
@@ -254,75 +239,46 @@ pub fn kept_front(bytes: &[u8]) -> Kept {
 }
 
 // The state and the names of a file that is whole.
-fn taken_whole(
-    desk: Desk,
-    file: &[u8],
-    number: u64,
-    bytes: &mut [u8; 8000],
-    names: &mut [u8; 16896],
-    out: &mut Out,
-) -> Desk {
+fn taken_whole(desk: &mut Desk, file: &[u8], number: u64) {
     let kept = kept_front(file);
-    let d = taken(desk, kept, number, bytes, names, out);
-    if d.said == 0 {
-        sealed::take_names(file, names);
+    taken(desk, kept, number);
+    if desk.said == Said::Well {
+        sealed::take_names(file, &mut desk.names);
     }
-    d
 }
 
 // What the bytes of a file come to: a file of the desk's own; a state as hosts save it, which has no names; or nothing that was saved.
-fn taken_from(
-    desk: Desk,
-    file: &[u8],
-    number: u64,
-    bytes: &mut [u8; 8000],
-    names: &mut [u8; 16896],
-    out: &mut Out,
-) -> Desk {
+fn taken_from(desk: &mut Desk, file: &[u8], number: u64) {
     if sealed::is_sealed(file) {
-        return taken_whole(desk, file, number, bytes, names, out);
+        taken_whole(desk, file, number);
+    } else {
+        let kept = kept_in(file);
+        if !kept.refused {
+            taken(desk, kept, number);
+        } else if sealed::begins_as_state(file) {
+            put_changed(desk, number);
+        } else {
+            put_foreign(desk, number);
+        }
     }
-    let kept = kept_in(file);
-    if !kept.refused {
-        return taken(desk, kept, number, bytes, names, out);
-    }
-    if sealed::begins_as_state(file) {
-        return put_changed(desk, number, out);
-    }
-    put_foreign(desk, number, out)
 }
 
 // What a file that was opened holds becomes the state, the tally and the names; `file` is the sum of its name.
-fn read(
-    desk: Desk,
-    opened: File,
-    file: u64,
-    number: u64,
-    bytes: &mut [u8; 8000],
-    names: &mut [u8; 16896],
-    out: &mut Out,
-) -> Desk {
+fn read(desk: &mut Desk, opened: File, file: u64, number: u64) {
     let mut held = [0u8; sealed::READ];
     let n = system::read_full(&opened, &mut held);
     if let Err(reason) = readable(&opened, n) {
-        return told(desk, number, b"open", Err(reason), out);
+        return told(desk, number, b"open", Err(reason));
     }
     let seen = sum_of(&held[..n]);
-    let d = taken_from(desk, &held[..n], number, bytes, names, out);
-    filed(d, file, seen)
+    taken_from(desk, &held[..n], number);
+    filed(desk, file, seen);
 }
 
 // Opens a file that was saved.
-pub fn open(
-    desk: Desk,
-    file: &[u8],
-    number: u64,
-    bytes: &mut [u8; 8000],
-    names: &mut [u8; 16896],
-    out: &mut Out,
-) -> Desk {
-    match system::open_read(out.runtime(), file) {
-        Ok(opened) => read(desk, opened, sum_of(file), number, bytes, names, out),
-        Err(reason) => told(desk, number, b"open", Err(reason), out),
+pub fn open(desk: &mut Desk, file: &[u8], number: u64) {
+    match system::open_read(desk.out.runtime(), file) {
+        Ok(opened) => read(desk, opened, sum_of(file), number),
+        Err(reason) => told(desk, number, b"open", Err(reason)),
     }
 }

@@ -1,7 +1,7 @@
 // The command on padded plans: mend.
 use super::plans::fresh;
 use super::writing::forget;
-use super::{Desk, failed, refused};
+use super::{Desk, first};
 use drawing::Out;
 use mend::Answer;
 use text::Hex;
@@ -15,92 +15,30 @@ fn put_mended(plan: &[u8], cut: usize, out: &mut Out) {
     out.put_byte(b'\n');
 }
 
-// A desk on the mended plan, which is the first `length` bytes, with a fresh state.
-fn mended_of(desk: Desk, bytes: &[u8], length: usize, cut: usize, out: &mut Out) -> Desk {
-    if length <= bytes.len() {
-        put_mended(&bytes[0..length], cut, out);
-        let loaded = machine::load(&bytes[0..length]);
-        return fresh(desk, loaded, length);
-    }
-    desk
-}
-
-fn mended(
-    desk: Desk,
-    bytes: &[u8; 8000],
-    length: usize,
-    cut: usize,
-    names: &mut [u8; 16896],
-    out: &mut Out,
-) -> Desk {
-    let before = desk.state;
-    forget(before, bytes, length, names);
-    mended_of(desk, bytes, length, cut, out)
+// The mended plan, so many bytes of the last plan, becomes it, with a fresh state.
+fn mended(desk: &mut Desk, length: usize, cut: usize) {
+    forget(desk.state, &desk.bytes, length, &mut desk.names);
+    put_mended(first(&desk.bytes, length), cut, &mut desk.out);
+    fresh(desk, length);
 }
 
 // The mended plan is the last plan from then on; where it is refused nothing changes, since a refused mend changes no byte.
-fn mend_into(
-    desk: Desk,
-    padded: &[u8],
-    bytes: &mut [u8; 8000],
-    names: &mut [u8; 16896],
-    out: &mut Out,
-) -> Desk {
-    let a = mend::mend(padded, bytes);
-    match a {
+fn mend_into(desk: &mut Desk, padded: &[u8]) {
+    match mend::mend(padded, &mut desk.bytes) {
         Answer::Refused { number, place } => {
-            out.put_pair(b"mend", number as u64, place as u64);
-            refused(desk, number)
+            desk.out.put_pair(b"mend", u64::from(number), place as u64);
+            desk.answer(number);
         }
-        Answer::Mended { length, cut } => mended(desk, bytes, length, cut, names, out),
+        Answer::Mended { length, cut } => mended(desk, length, cut),
     }
-}
-
-fn mend_part(
-    desk: Desk,
-    given: &[u8],
-    count: usize,
-    bytes: &mut [u8; 8000],
-    names: &mut [u8; 16896],
-    out: &mut Out,
-) -> Desk {
-    if count <= given.len() {
-        return mend_into(desk, &given[0..count], bytes, names, out);
-    }
-    desk
-}
-
-fn mend_in(
-    desk: Desk,
-    given: &[u8; 8000],
-    count: usize,
-    bytes: &mut [u8; 8000],
-    names: &mut [u8; 16896],
-    out: &mut Out,
-) -> Desk {
-    mend_part(desk, given, count, bytes, names, out)
 }
 
 // A padded plan in hexadecimal; what is no hexadecimal changes nothing.
-pub fn mend(
-    desk: Desk,
-    word: &[u8],
-    number: u64,
-    bytes: &mut [u8; 8000],
-    names: &mut [u8; 16896],
-    out: &mut Out,
-) -> Desk {
+pub fn mend(desk: &mut Desk, word: &[u8], number: u64) {
     let mut given = [0u8; 8000];
-    let h = text::decode(word, &mut given);
-    match h {
-        Hex::Bytes { count } => mend_in(desk, &given, count, bytes, names, out),
-        Hex::Long => {
-            out.put_error(number, b"more than 8000 bytes");
-            failed(desk)
-        }
-        Hex::Bad => {
-            out.put_error(number, b"not hexadecimal");
-            failed(desk)
-        }
+    match text::decode(word, &mut given) {
+        Hex::Bytes { count } => mend_into(desk, first(&given, count)),
+        Hex::Long => desk.error(number, b"more than 8000 bytes"),
+        Hex::Bad => desk.error(number, b"not hexadecimal"),
     }
 }

@@ -1,8 +1,7 @@
 // The commands on plans: plan, show, draw and names. The last plan is the first `plan` bytes of `bytes`, accepted or refused.
 use super::writing::forget;
-use super::{Desk, changed, failed, refused};
+use super::{Desk, first};
 use drawing::{Out, put_drawing, put_names};
-use machine::Loaded;
 use plan::Answer;
 use plan::table::{LENGTH, Table};
 use text::Hex;
@@ -88,100 +87,41 @@ fn put_show(s: &[u8], k: u32, out: &mut Out) {
     put_shown(part, refusal, out);
 }
 
-// The same of the last plan.
-fn draw_of(bytes: &[u8], plan: usize, names: &[u8; 16896], drawn: bool, out: &mut Out) {
-    if plan <= bytes.len() {
-        put_draw(&bytes[0..plan], names, drawn, out);
-    }
+// The last plan drawn, with what it is called.
+pub fn draw(desk: &mut Desk) {
+    let plan = first(&desk.bytes, desk.plan);
+    put_draw(plan, &desk.names, true, &mut desk.out);
 }
 
-pub fn draw(desk: Desk, bytes: &[u8; 8000], names: &[u8; 16896], out: &mut Out) -> Desk {
-    draw_of(bytes, desk.plan, names, true, out);
-    desk
+// What the last plan is called.
+pub fn names(desk: &mut Desk) {
+    let plan = first(&desk.bytes, desk.plan);
+    put_draw(plan, &desk.names, false, &mut desk.out);
 }
 
-pub fn names(desk: Desk, bytes: &[u8; 8000], names: &[u8; 16896], out: &mut Out) -> Desk {
-    draw_of(bytes, desk.plan, names, false, out);
-    desk
+// Activity k of the last plan.
+pub fn show(desk: &mut Desk, k: u32) {
+    let plan = first(&desk.bytes, desk.plan);
+    put_show(plan, k, &mut desk.out);
 }
 
-fn show_of(bytes: &[u8], plan: usize, k: u32, out: &mut Out) {
-    if plan <= bytes.len() {
-        put_show(&bytes[0..plan], k, out);
-    }
-}
-
-pub fn show(desk: Desk, k: u32, bytes: &[u8; 8000], out: &mut Out) -> Desk {
-    show_of(bytes, desk.plan, k, out);
-    desk
-}
-
-// The desk on a state that was loaded, with an empty tally.
-pub(crate) fn fresh(desk: Desk, loaded: Loaded, plan: usize) -> Desk {
-    let state = loaded.state;
-    let tally = machine::no_tally();
-    let d = changed(desk, state, tally, plan);
-    refused(d, loaded.refusal)
-}
-
-// The desk as it begins: there is no plan, and it answers by numbers alone.
-pub fn new() -> Desk {
-    let none = [0u8; 1];
-    let loaded = machine::load(&none);
-    let state = loaded.state;
-    let tally = machine::no_tally();
-    Desk {
-        state,
-        tally,
-        plan: 0,
-        said: 0,
-        spoken: false,
-        bold: false,
-        unsaved: false,
-        filed: false,
-        file: 0,
-        seen: 0,
-        over: false,
-    }
-}
-
-// A desk on the plan that some bytes spell.
-fn loaded_of(desk: Desk, bytes: &[u8], plan: usize, out: &mut Out) -> Desk {
-    if plan <= bytes.len() {
-        put_plan(&bytes[0..plan], out);
-        let loaded = machine::load(&bytes[0..plan]);
-        return fresh(desk, loaded, plan);
-    }
-    desk
-}
-
-fn loaded_in(desk: Desk, bytes: &[u8; 8000], plan: usize, out: &mut Out) -> Desk {
-    loaded_of(desk, bytes, plan, out)
+// The first bytes of the last plan, so many of them, are loaded: the desk is on a fresh state, with an empty tally.
+pub(crate) fn fresh(desk: &mut Desk, length: usize) {
+    let loaded = machine::load(first(&desk.bytes, length));
+    desk.plan = length;
+    desk.change(loaded.state, machine::no_tally());
+    desk.answer(loaded.refusal);
 }
 
 // A plan in hexadecimal becomes the last plan, with a fresh state; what is no hexadecimal changes nothing.
-pub fn load(
-    desk: Desk,
-    word: &[u8],
-    number: u64,
-    bytes: &mut [u8; 8000],
-    names: &mut [u8; 16896],
-    out: &mut Out,
-) -> Desk {
-    let h = text::decode(word, bytes);
-    match h {
+pub fn load(desk: &mut Desk, word: &[u8], number: u64) {
+    match text::decode(word, &mut desk.bytes) {
         Hex::Bytes { count } => {
-            let before = desk.state;
-            forget(before, bytes, count, names);
-            loaded_in(desk, bytes, count, out)
+            forget(desk.state, &desk.bytes, count, &mut desk.names);
+            put_plan(first(&desk.bytes, count), &mut desk.out);
+            fresh(desk, count);
         }
-        Hex::Long => {
-            out.put_error(number, b"more than 8000 bytes");
-            failed(desk)
-        }
-        Hex::Bad => {
-            out.put_error(number, b"not hexadecimal");
-            failed(desk)
-        }
+        Hex::Long => desk.error(number, b"more than 8000 bytes"),
+        Hex::Bad => desk.error(number, b"not hexadecimal"),
     }
 }

@@ -228,7 +228,7 @@ fn topic_of(word: &[u8]) -> usize {
 // More on one command, and a blank line. Nothing where the word is none.
 pub fn put_help_on(out: &mut Out, word: &[u8]) {
     let k = topic_of(word);
-    if TOPICS <= k {} else {
+    if k < TOPICS {
         put_line(out, k);
         put_more(out, k);
         out.put_byte(b'\n');

@@ -2,7 +2,7 @@
 use drawing::Out;
 use machine::State;
 use order::Order;
-use papers::{Desk, failed};
+use papers::Desk;
 use text::Decimal;
 
 // The variable that `v0`, `v1` and so on stand for; 16 where a word is none of these.
@@ -76,31 +76,24 @@ fn some_has(orders: [Order; 16], variable: usize, value: u32) -> bool {
     false
 }
 
-fn none(desk: Desk, word: &[u8], value: u32, number: u64, out: &mut Out) -> Desk {
-    out.put(b"error");
-    out.put_next(number);
-    out.put(b" no live order has ");
-    out.put(word);
-    out.put_next(value as u64);
-    out.put_byte(b'\n');
-    failed(desk)
+fn none(desk: &mut Desk, word: &[u8], value: u32, number: u64) {
+    desk.out.put(b"error");
+    desk.out.put_next(number);
+    desk.out.put(b" no live order has ");
+    desk.out.put(word);
+    desk.out.put_next(value as u64);
+    desk.out.put_byte(b'\n');
+    desk.fail();
 }
 
 // The orders whose variable has this value.
-pub(crate) fn order_by(
-    desk: Desk,
-    word: &[u8],
-    value: u32,
-    number: u64,
-    names: &[u8; 16896],
-    out: &mut Out,
-) -> Desk {
-    let variable = variable_of(names, word);
+pub(crate) fn order_by(desk: &mut Desk, word: &[u8], value: u32, number: u64) {
+    let variable = variable_of(&desk.names, word);
     let state = desk.state;
     let orders = state.orders;
     if some_has(orders, variable, value) {
-        put_orders(out, names, state, variable, value);
-        return desk;
+        put_orders(&mut desk.out, &desk.names, state, variable, value);
+    } else {
+        none(desk, word, value, number);
     }
-    none(desk, word, value, number, out)
 }

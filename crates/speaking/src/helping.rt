@@ -1,42 +1,32 @@
 // Ways of answering, and help.
-use drawing::Out;
-use papers::{Desk, failed};
+use papers::Desk;
 
 // Numbers alone from now on.
-pub(crate) fn plain(desk: Desk, out: &mut Out) -> Desk {
-    out.put(b"plain\n");
-    let mut d = desk;
-    d.spoken = false;
-    d
+pub(crate) fn plain(desk: &mut Desk) {
+    desk.out.put(b"plain\n");
+    desk.spoken = false;
 }
 
 // Words too.
-pub(crate) fn spoken(desk: Desk, out: &mut Out) -> Desk {
-    out.put(b"spoken\n");
-    let mut d = desk;
-    d.spoken = true;
-    d
+pub(crate) fn spoken(desk: &mut Desk) {
+    desk.out.put(b"spoken\n");
+    desk.spoken = true;
 }
 
-pub(crate) fn help(desk: Desk, out: &mut Out) -> Desk {
-    sayings::put_help(out);
-    desk
+pub(crate) fn help(desk: &mut Desk) {
+    sayings::put_help(&mut desk.out);
 }
 
 // Help on a command, on refusals or on faults.
-pub(crate) fn help_on(desk: Desk, word: &[u8], number: u64, out: &mut Out) -> Desk {
+pub(crate) fn help_on(desk: &mut Desk, word: &[u8], number: u64) {
     if text::same(word, b"refusals") {
-        sayings::put_refusals(out);
-        return desk;
+        sayings::put_refusals(&mut desk.out);
+    } else if text::same(word, b"faults") {
+        sayings::put_faults(&mut desk.out);
+    } else if sayings::has_help(word) {
+        sayings::put_help_on(&mut desk.out, word);
+    } else {
+        desk.out.put_error(number, b"no such command");
+        desk.fail();
     }
-    if text::same(word, b"faults") {
-        sayings::put_faults(out);
-        return desk;
-    }
-    if sayings::has_help(word) {
-        sayings::put_help_on(out, word);
-        return desk;
-    }
-    out.put_error(number, b"no such command");
-    failed(desk)
 }

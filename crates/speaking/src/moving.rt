@@ -4,7 +4,7 @@ use console::{Numbers, numbers_of, rest_of};
 use drawing::Out;
 use machine::{Collected, Message, State, Step, Tally};
 use order::Order;
-use papers::{Desk, changed, refused};
+use papers::{Desk, Said};
 use plan::Answer;
 use plan::table::LENGTH;
 use run::Ran;
@@ -58,19 +58,20 @@ fn put_told(out: &mut Out, names: &[u8; 16896], state: State, x: Step) {
 }
 
 // Takes a step.
-pub(crate) fn step(desk: Desk, choice: u32, names: &[u8; 16896], out: &mut Out) -> Desk {
+pub(crate) fn step(desk: &mut Desk, choice: u32) {
     let before = desk.state;
     let counted = desk.tally;
     let r = step::take_step(before, choice as usize, counted);
     let x = r.answer;
-    console::put_step(out, x);
-    put_told(out, names, before, x);
+    console::put_step(&mut desk.out, x);
+    put_told(&mut desk.out, &desk.names, before, x);
     if x.refusal != 0 {
-        return refused(desk, x.refusal);
+        desk.answer(x.refusal);
+    } else {
+        let state = r.state;
+        let tally = r.tally;
+        desk.change(state, tally);
     }
-    let state = r.state;
-    let tally = r.tally;
-    changed(desk, state, tally, desk.plan)
 }
 
 // How many steps were taken, and why no more.
@@ -140,58 +141,49 @@ fn ran_in(state: State, tally: Tally, choices: &[usize; 1000], n: usize, budget:
 }
 
 // Takes steps by these choices, and tells them.
-fn ran(
-    desk: Desk,
-    word: &[u8],
-    choices: &[usize; 1000],
-    n: usize,
-    budget: u32,
-    names: &[u8; 16896],
-    out: &mut Out,
-) -> Desk {
+fn ran(desk: &mut Desk, word: &[u8], choices: &[usize; 1000], n: usize, budget: u32) {
     let before = desk.state;
     let counted = desk.tally;
     let r = ran_in(before, counted, choices, n, budget);
     let state = r.state;
     let tally = r.tally;
-    out.put_pair(word, r.taken as u64, r.refusal as u64);
+    desk.out.put_pair(word, r.taken as u64, r.refusal as u64);
     if desk.spoken {
-        put_count(out, r);
-        put_turns(out, names, before, counted, choices, r.taken);
+        put_count(&mut desk.out, r);
+        put_turns(
+            &mut desk.out,
+            &desk.names,
+            before,
+            counted,
+            choices,
+            r.taken,
+        );
     }
     if r.taken == 0 {
-        return refused(desk, r.refusal);
+        desk.answer(r.refusal);
+    } else {
+        desk.change(state, tally);
     }
-    changed(desk, state, tally, desk.plan)
 }
 
 // Takes steps by a budget and up to 1,000 choices.
-pub(crate) fn run(
-    desk: Desk,
-    line: &[u8],
-    from: usize,
-    number: u64,
-    names: &[u8; 16896],
-    out: &mut Out,
-) -> Desk {
+pub(crate) fn run(desk: &mut Desk, line: &[u8], from: usize, number: u64) {
     let mut numbers = [0u32; 1001];
     let n = numbers_of(line, from, 1002, &mut numbers);
     match n {
-        Numbers::Wrong { why } => console::wrong(desk, number, why, out),
+        Numbers::Wrong { why } => console::wrong(desk, number, why),
+        Numbers::All { count: 0 } => console::wrong(desk, number, Trouble::Missing),
         Numbers::All { count } => {
-            if count < 1 {
-                return console::wrong(desk, number, Trouble::Missing, out);
-            }
             let choices = rest_of(&numbers);
-            ran(desk, b"run", &choices, count - 1, numbers[0], names, out)
+            ran(desk, b"run", &choices, count - 1, numbers[0]);
         }
     }
 }
 
 // Takes the first choice again and again, up to 1,000 times.
-pub(crate) fn go(desk: Desk, limit: u32, names: &[u8; 16896], out: &mut Out) -> Desk {
+pub(crate) fn go(desk: &mut Desk, limit: u32) {
     let choices = [0usize; 1000];
-    ran(desk, b"go", &choices, 1000, limit, names, out)
+    ran(desk, b"go", &choices, 1000, limit);
 }
 
 // A message that goes out, told.
@@ -240,53 +232,45 @@ fn put_handed(
 }
 
 // A message that a command with this word handed out, or why it did not.
-fn handed(
-    desk: Desk,
-    word: &[u8],
-    c: Collected,
-    dropped: bool,
-    names: &[u8; 16896],
-    out: &mut Out,
-) -> Desk {
+fn handed(desk: &mut Desk, word: &[u8], c: Collected, dropped: bool) {
     let before = desk.state;
     let m = c.message;
-    console::put_collected(out, word, c);
+    console::put_collected(&mut desk.out, word, c);
     if desk.spoken {
-        put_handed(out, names, before, c.refusal, m, dropped);
+        put_handed(&mut desk.out, &desk.names, before, c.refusal, m, dropped);
     }
     if c.refusal != 0 {
-        return refused(desk, c.refusal);
+        desk.answer(c.refusal);
+    } else {
+        let state = c.state;
+        let tally = desk.tally;
+        desk.change(state, tally);
     }
-    let state = c.state;
-    let tally = desk.tally;
-    changed(desk, state, tally, desk.plan)
 }
 
 // Hands out the oldest message that leaves.
-pub(crate) fn collect(desk: Desk, names: &[u8; 16896], out: &mut Out) -> Desk {
+pub(crate) fn collect(desk: &mut Desk) {
     let before = desk.state;
     let c = mail::collect(before);
-    handed(desk, b"collect", c, false, names, out)
+    handed(desk, b"collect", c, false);
 }
 
 // Hands out the message at a place, whoever it is for.
-pub(crate) fn drop_at(desk: Desk, place: u32, names: &[u8; 16896], out: &mut Out) -> Desk {
+pub(crate) fn drop_at(desk: &mut Desk, place: u32) {
     let before = desk.state;
     let c = mail::drop_at(before, place as usize);
-    handed(desk, b"drop", c, true, names, out)
+    handed(desk, b"drop", c, true);
 }
 
 // Hands out all that go out, up to the refusal that says that there are no more.
-pub(crate) fn collect_all(desk: Desk, names: &[u8; 16896], out: &mut Out) -> Desk {
-    let mut d = desk;
+pub(crate) fn collect_all(desk: &mut Desk) {
     let mut left: usize = 65;
     while left > 0 {
-        d = collect(d, names, out);
-        if d.said != 0 {
-            d.said = 0;
-            return d;
+        collect(desk);
+        if desk.said != Said::Well {
+            desk.said = Said::Well;
+            return;
         }
         left -= 1;
     }
-    d
 }

@@ -3,7 +3,7 @@ use commands::Trouble;
 use drawing::Out;
 use machine::{Message, State};
 use names::Stands;
-use papers::{Desk, changed, failed, refused};
+use papers::Desk;
 use phrases::{has_more, part};
 use plan::Answer;
 use plan::table::{LENGTH, Table};
@@ -100,7 +100,7 @@ fn reply_of(names: &[u8; 16896], line: &[u8], w: Word) -> Next {
 fn put_fate(out: &mut Out, table: &Table, activities: usize, m: Message) {
     if !telling::is_received(table, activities, m.partner) {
         out.put(b"; the plan never receives on this partner, so it leaves by collect");
-    } else if telling::is_taken(table, activities, m.partner, m.operation, m.count) {} else {
+    } else if !telling::is_taken(table, activities, m.partner, m.operation, m.count) {
         out.put(b"; no receive of the plan takes it");
     }
 }
@@ -127,76 +127,72 @@ fn put_waits(out: &mut Out, names: &[u8; 16896], state: State, m: Message) {
     }
 }
 
-fn posted(desk: Desk, m: Message, names: &[u8; 16896], out: &mut Out) -> Desk {
+fn posted(desk: &mut Desk, m: Message) {
     let before = desk.state;
     let p = mail::post(before, m);
-    out.put_refusal(b"post", p.refusal);
-    out.go_on();
+    desk.out.put_refusal(b"post", p.refusal);
+    desk.out.go_on();
     if p.refusal != 0 {
-        sayings::put_refused(out, p.refusal);
-        return refused(desk, p.refusal);
+        sayings::put_refused(&mut desk.out, p.refusal);
+        desk.answer(p.refusal);
+        return;
     }
-    out.put(b" - ");
-    put_waits(out, names, before, m);
-    out.put_byte(b'\n');
+    desk.out.put(b" - ");
+    put_waits(&mut desk.out, &desk.names, before, m);
+    desk.out.put_byte(b'\n');
     let state = p.state;
     let tally = desk.tally;
-    changed(desk, state, tally, desk.plan)
+    desk.change(state, tally);
 }
 
 // A name that nobody has.
-fn unnamed(desk: Desk, number: u64, word: &[u8], out: &mut Out) -> Desk {
-    out.put(b"error");
-    out.put_next(number);
-    out.put(b" no such name: ");
-    out.put(word);
-    out.put_byte(b'\n');
-    failed(desk)
+fn unnamed(desk: &mut Desk, number: u64, word: &[u8]) {
+    desk.out.put(b"error");
+    desk.out.put_next(number);
+    desk.out.put(b" no such name: ");
+    desk.out.put(word);
+    desk.out.put_byte(b'\n');
+    desk.fail();
 }
 
 // Posts a message by its numbers, so many of them; its partner to reply to stands behind the word `reply` of the line.
 fn posted_with(
-    desk: Desk,
+    desk: &mut Desk,
     line: &[u8],
     reply: Word,
     number: u64,
     numbers: &[u32; 1001],
     count: usize,
-    names: &[u8; 16896],
-    out: &mut Out,
-) -> Desk {
+) {
     if count < 2 {
-        return console::wrong(desk, number, Trouble::Missing, out);
-    }
-    let r = reply_of(names, line, reply);
-    match r {
-        Next::End => console::wrong(desk, number, Trouble::Missing, out),
-        Next::Wrong { why } => console::wrong(desk, number, why, out),
-        Next::Unnamed { from, to } => unnamed(desk, number, part(line, from, to), out),
-        Next::Number { value, to: _ } => {
-            let m = console::message_of(numbers, count - 2, value);
-            posted(desk, m, names, out)
+        console::wrong(desk, number, Trouble::Missing);
+    } else {
+        let r = reply_of(&desk.names, line, reply);
+        match r {
+            Next::End => console::wrong(desk, number, Trouble::Missing),
+            Next::Wrong { why } => console::wrong(desk, number, why),
+            Next::Unnamed { from, to } => unnamed(desk, number, part(line, from, to)),
+            Next::Number { value, to: _ } => {
+                let m = console::message_of(numbers, count - 2, value);
+                posted(desk, m);
+            }
         }
     }
 }
 
 // Posts a message.
-pub(crate) fn post(
-    desk: Desk,
-    line: &[u8],
-    from: usize,
-    number: u64,
-    names: &[u8; 16896],
-    out: &mut Out,
-) -> Desk {
+pub(crate) fn post(desk: &mut Desk, line: &[u8], from: usize, number: u64) {
     let mut numbers = [0u32; 1001];
     let reply = console::reply_in(line, from);
-    let n = numbers_of(names, console::before(line, reply.from), from, &mut numbers);
+    let n = numbers_of(
+        &desk.names,
+        console::before(line, reply.from),
+        from,
+        &mut numbers,
+    );
     match n {
-        Reading::Wrong { why } => console::wrong(desk, number, why, out),
-        Reading::Unnamed { from, to } => unnamed(desk, number, part(line, from, to), out),
-        Reading::All { count } => posted_with(
-            desk, line, reply, number, &numbers, count, names, out,
-        ),
+        Reading::Wrong { why } => console::wrong(desk, number, why),
+        Reading::Unnamed { from, to } => unnamed(desk, number, part(line, from, to)),
+        Reading::All { count } => posted_with(desk, line, reply, number, &numbers, count),
     }
 }

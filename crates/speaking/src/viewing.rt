@@ -2,80 +2,55 @@
 use super::keeping::activities_of;
 use drawing::Out;
 use machine::{Message, State, Tally};
-use papers::{Desk, refused};
+use papers::{Desk, Said};
 use plan::Answer;
 use plan::table::{LENGTH, Table};
 use sayings::put_refused;
 
 // A state without a plan has no such thing.
-fn planless(desk: Desk, word: &[u8], out: &mut Out) -> Desk {
-    out.put_refusal(word, 17);
-    out.go_on();
-    put_refused(out, 17);
-    refused(desk, 17)
+fn planless(desk: &mut Desk, word: &[u8]) {
+    desk.out.put_refusal(word, 17);
+    desk.out.go_on();
+    put_refused(&mut desk.out, 17);
+    desk.answer(17);
 }
 
-fn has_plan(desk: Desk) -> bool {
+fn has_plan(desk: &Desk) -> bool {
     let state = desk.state;
     0 < state.length
 }
 
 // A command whose answer is words already.
-pub(crate) fn planned(
-    desk: Desk,
-    word: &[u8],
-    line: &[u8],
-    number: u64,
-    bytes: &mut [u8; 8000],
-    names: &mut [u8; 16896],
-    out: &mut Out,
-) -> Desk {
+pub(crate) fn planned(desk: &mut Desk, word: &[u8], line: &[u8], number: u64) {
     if has_plan(desk) {
-        return console::answer(desk, line, number, bytes, names, out);
+        console::answer(desk, line, number);
+    } else {
+        planless(desk, word);
     }
-    planless(desk, word, out)
 }
 
 // The drawing, or why there is none.
-pub(crate) fn drawn(
-    desk: Desk,
-    line: &[u8],
-    number: u64,
-    bytes: &mut [u8; 8000],
-    names: &mut [u8; 16896],
-    out: &mut Out,
-) -> Desk {
-    let d = console::answer(desk, line, number, bytes, names, out);
-    if has_plan(desk) {
-        return d;
+pub(crate) fn drawn(desk: &mut Desk, line: &[u8], number: u64) {
+    console::answer(desk, line, number);
+    if !has_plan(desk) {
+        desk.out.go_on();
+        desk.out.put(b" - there is no plan: write one\n");
+        desk.answer(2);
     }
-    out.go_on();
-    out.put(b" - there is no plan: write one\n");
-    refused(d, 2)
 }
 
 // The bytes of an activity, or why there are none.
-pub(crate) fn shown(
-    desk: Desk,
-    k: u32,
-    line: &[u8],
-    number: u64,
-    bytes: &mut [u8; 8000],
-    names: &mut [u8; 16896],
-    out: &mut Out,
-) -> Desk {
-    let d = drawn(desk, line, number, bytes, names, out);
-    if d.said != 0 {
-        return d;
+pub(crate) fn shown(desk: &mut Desk, k: u32, line: &[u8], number: u64) {
+    drawn(desk, line, number);
+    if desk.said == Said::Well {
+        let state = desk.state;
+        let n = k as usize;
+        if activities_of(state) <= n {
+            desk.out.go_on();
+            put_refused(&mut desk.out, 16);
+            desk.answer(16);
+        }
     }
-    let state = desk.state;
-    let n = k as usize;
-    if n < activities_of(state) {
-        return d;
-    }
-    out.go_on();
-    put_refused(out, 16);
-    refused(d, 16)
 }
 
 fn put_choices(out: &mut Out, many: usize, held: bool) {
@@ -94,22 +69,15 @@ fn put_choices(out: &mut Out, many: usize, held: bool) {
 }
 
 // What is offered, as numbers, with how much that is.
-pub(crate) fn offer(
-    desk: Desk,
-    line: &[u8],
-    number: u64,
-    bytes: &mut [u8; 8000],
-    names: &mut [u8; 16896],
-    out: &mut Out,
-) -> Desk {
+pub(crate) fn offer(desk: &mut Desk, line: &[u8], number: u64) {
     if !has_plan(desk) {
-        return planless(desk, b"offer", out);
+        planless(desk, b"offer");
+        return;
     }
     let state = desk.state;
     let o = offer::offers(state);
-    let d = console::answer(desk, line, number, bytes, names, out);
-    put_choices(out, o.many, o.held);
-    d
+    console::answer(desk, line, number);
+    put_choices(&mut desk.out, o.many, o.held);
 }
 
 fn put_counts(out: &mut Out, tally: Tally) {
@@ -127,11 +95,10 @@ fn put_counts(out: &mut Out, tally: Tally) {
     out.put(b" left\n");
 }
 
-pub(crate) fn tally(desk: Desk, out: &mut Out) -> Desk {
+pub(crate) fn tally(desk: &mut Desk) {
     let tally = desk.tally;
-    console::put_tally(out, tally);
-    put_counts(out, tally);
-    desk
+    console::put_tally(&mut desk.out, tally);
+    put_counts(&mut desk.out, tally);
 }
 
 // What becomes of a message.
@@ -200,11 +167,10 @@ fn put_waiting(out: &mut Out, names: &[u8; 16896], state: State) {
 }
 
 // The messages that wait, a line for each, and a blank line.
-pub(crate) fn waiting(desk: Desk, names: &[u8; 16896], out: &mut Out) -> Desk {
+pub(crate) fn waiting(desk: &mut Desk) {
     let state = desk.state;
-    out.put(b"waiting");
-    out.put_next(state.waiting as u64);
-    out.put_byte(b'\n');
-    put_waiting(out, names, state);
-    desk
+    desk.out.put(b"waiting");
+    desk.out.put_next(state.waiting as u64);
+    desk.out.put_byte(b'\n');
+    put_waiting(&mut desk.out, &desk.names, state);
 }

@@ -151,10 +151,9 @@ fn put_replying(out: &mut Out, names: &[u8; 16896], table: &Table, n: usize) {
     match entry(table, n, KIND) {
         kind::HELD_SEND => {
             let reply = entry(table, n, PARTNER);
-            if reply == 0 {
-                return;
+            if reply != 0 {
+                put_reply(out, names, reply);
             }
-            put_reply(out, names, reply);
         }
         kind::ASKING_RECEIVE => {
             out.put(b"; reply to into ");

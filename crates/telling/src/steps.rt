@@ -90,12 +90,8 @@ fn put_set(out: &mut Out, names: &[u8; 16896], variable: u32, w: Worth) {
 
 fn put_chosen(out: &mut Out, names: &[u8; 16896], w: Worth, yes: &[u8], no: &[u8]) {
     match w {
-        Worth::Value { value } => {
-            if value == 0 {
-                out.put(no);
-            }
-            out.put(yes);
-        }
+        Worth::Value { value: 0 } => out.put(no),
+        Worth::Value { value: _ } => out.put(yes),
         Worth::Fault { number } => {
             out.put(b"faulted: it could not decide");
             put_by_fault(out, names, number);

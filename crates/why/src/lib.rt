@@ -18,7 +18,10 @@ pub use undo::put_undone;
 
 // A variable that is for correlation, where it is bound.
 fn put_key(out: &mut Out, names: &[u8; 16896], flag: u8, variable: u32, known: u64) {
-    if flag != 1 {} else if known == 0 {} else {
+    if flag != 1 {
+        return;
+    }
+    if known != 0 {
         out.put(b", ");
         put_variable(out, names, variable);
         out.put_next(known - 1);

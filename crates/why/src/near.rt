@@ -107,10 +107,10 @@ fn put_one(
     j: usize,
     m: Message,
 ) {
-    if !is_for(table, n, m) {} else {
+    if is_for(table, n, m) {
         let values = m.values;
         let near = near_of(asked, m);
-        if 1 < near.many {} else {
+        if near.many <= 1 {
             put_number_of(out, j);
             if near.many == 0 {
                 out.put(b" fits\n");

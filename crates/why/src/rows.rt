@@ -82,9 +82,9 @@ fn put_rivals(out: &mut Out, k: usize, rival: usize) {
 
 // Of a conflicting receive, the first two that are for one thing and may have made the root fault.
 fn put_conflict(out: &mut Out, table: &Table, cause: u8) {
-    if cause != fault::CONFLICTING_RECEIVE {} else {
+    if cause == fault::CONFLICTING_RECEIVE {
         let k = checking::contested_in(table, 256);
-        if 255 < k {} else {
+        if k <= 255 {
             put_rivals(out, k, checking::rival_of(table, k));
         }
     }
@@ -116,9 +116,9 @@ fn may_be_contested(choice: u8) -> bool {
 
 // Where the mark of a scope says that two receives were open for one thing, or does not say what it was, the first two in scope n for which that may be.
 fn put_contested(out: &mut Out, table: &Table, n: usize, choice: u8) {
-    if !may_be_contested(choice) {} else {
+    if may_be_contested(choice) {
         let k = checking::contested_in(table, n);
-        if 255 < k {} else {
+        if k <= 255 {
             put_rivals(out, k, checking::rival_of(table, k));
         }
     }

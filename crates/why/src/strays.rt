@@ -163,7 +163,7 @@ fn put_stray(
             m,
             b": it would start an order: held, since 16 orders are live\n",
         );
-    } else if held_alone {} else {
+    } else if !held_alone {
         put_untaken(out, names, table, activities, fate, j, m);
     }
 }

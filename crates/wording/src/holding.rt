@@ -11,7 +11,10 @@ fn put_line(out: &mut Out, line: &[u8]) {
 
 // A live order that remembers as many closings as it can.
 fn put_mindful(out: &mut Out, slot: usize, order: Order) {
-    if order.root == 0 {} else if order.kept < 32 {} else {
+    if order.root == 0 {
+        return;
+    }
+    if 32 <= order.kept {
         out.put(b"no room: order");
         out.put_next(slot as u64);
         put_line(out, b" remembers 32 closings");

@@ -27,14 +27,14 @@ fn put_root(out: &mut Out, root: u8) {
 
 // The fault that the root faulted with, where it has faulted: its mark is then neither free nor running.
 fn put_cause(out: &mut Out, names: &[u8; 16896], root: u8, cause: u8) {
-    if root < 2 {} else {
+    if 2 <= root {
         sayings::put_by_fault(out, names, cause);
     }
 }
 
 // What stands between two of a list.
 fn put_between(out: &mut Out, i: usize) {
-    if i == 0 {} else {
+    if i != 0 {
         out.put(b", ");
     }
 }
@@ -293,7 +293,7 @@ fn put_drawn_order(
 ) {
     put_head(out, names, table, slot, order);
     out.put_byte(b'\n');
-    if order.root == 0 {} else {
+    if order.root != 0 {
         put_doing_lines(out, names, table, correlation, activities, order);
         put_foot(out, names, table, correlation, variables, order);
     }
