@@ -12,7 +12,7 @@ mod sizes;
 use boxes::put_boxes;
 use drawing::{Out, put_drawing, put_names};
 use machine::{State, Tally};
-use plan::Answer;
+use plan::Accepted;
 use plan::table::{LENGTH, Table};
 
 // How many bytes every page of the desk begins with, as no other file does.
@@ -111,15 +111,14 @@ fn put_state(out: &mut Out, names: &[u8; 16896], state: State) {
     let mut flags = [0u8; 16];
     let a = machine::limits::planned(state, &mut table, &mut flags);
     match a {
-        Answer::Refused {
-            number: _,
-            place: _,
-        } => put_planless(out),
-        Answer::Accepted {
-            variables,
-            activities,
-            nodes: _,
-        } => put_planned(out, names, &table, &flags, variables, activities, state),
+        Err(_) => put_planless(out),
+        Ok(
+            Accepted {
+                variables,
+                activities,
+                ..
+            },
+        ) => put_planned(out, names, &table, &flags, variables, activities, state),
     }
 }
 

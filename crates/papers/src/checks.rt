@@ -2,8 +2,8 @@
 use super::{Desk, first};
 use checking::{put_check, put_warnings};
 use drawing::Out;
-use plan::Answer;
 use plan::table::{LENGTH, Table};
+use plan::{Accepted, Refusal};
 
 // A refused plan has its refusal; where only warnings are wanted, it has none.
 fn put_refused(asked: bool, number: u32, place: usize, out: &mut Out) {
@@ -32,12 +32,15 @@ fn put_checked(s: &[u8], names: &[u8; 16896], asked: bool, out: &mut Out) {
     let mut correlation = [0u8; 16];
     let a = plan::accept(s, &mut table, &mut correlation);
     match a {
-        Answer::Refused { number, place } => put_refused(asked, number, place, out),
-        Answer::Accepted {
-            variables: _,
+        Err(Refusal { number, place }) => put_refused(asked, number, place, out),
+        Ok(Accepted { activities, .. }) => put_accepted(
+            names,
+            &table,
+            &correlation,
             activities,
-            nodes: _,
-        } => put_accepted(names, &table, &correlation, activities, asked, out),
+            asked,
+            out,
+        ),
     }
 }
 

@@ -4,7 +4,6 @@ use super::writing::forget;
 use super::{Desk, Filed, Said, sealed, system};
 use drawing::Out;
 use machine::State;
-use plan::Answer;
 use plan::table::LENGTH;
 use std::alloc::AllocError;
 use std::fs::File;
@@ -164,15 +163,8 @@ fn is_sound(state: State) -> bool {
     let mut flags = [0u8; 16];
     let a = machine::limits::planned(state, &mut table, &mut flags);
     match a {
-        Answer::Accepted {
-            variables: _,
-            activities: _,
-            nodes: _,
-        } => true,
-        Answer::Refused {
-            number: _,
-            place: _,
-        } => is_blank(state),
+        Ok(_) => true,
+        Err(_) => is_blank(state),
     }
 }
 

@@ -2,8 +2,8 @@
 use super::writing::forget;
 use super::{Desk, first};
 use drawing::{Out, put_drawing, put_names};
-use plan::Answer;
 use plan::table::{LENGTH, Table};
+use plan::{Accepted, Refusal};
 use text::Hex;
 
 // What a plan is found to be.
@@ -12,12 +12,8 @@ fn put_plan(s: &[u8], out: &mut Out) {
     let mut correlation = [0u8; 16];
     let a = plan::accept(s, &mut table, &mut correlation);
     match a {
-        Answer::Refused { number, place } => out.put_pair(b"plan", number as u64, place as u64),
-        Answer::Accepted {
-            variables: _,
-            activities,
-            nodes: _,
-        } => out.put_pair(b"plan", 0, activities as u64),
+        Err(Refusal { number, place }) => out.put_pair(b"plan", number as u64, place as u64),
+        Ok(Accepted { activities, .. }) => out.put_pair(b"plan", 0, activities as u64),
     }
 }
 
@@ -52,12 +48,14 @@ fn put_draw(s: &[u8], names: &[u8; 16896], drawn: bool, out: &mut Out) {
     let mut correlation = [0u8; 16];
     let a = plan::accept(s, &mut table, &mut correlation);
     match a {
-        Answer::Refused { number, place } => put_refused(drawn, number, place, out),
-        Answer::Accepted {
-            variables,
-            activities,
-            nodes: _,
-        } => put_accepted(
+        Err(Refusal { number, place }) => put_refused(drawn, number, place, out),
+        Ok(
+            Accepted {
+                variables,
+                activities,
+                ..
+            },
+        ) => put_accepted(
             names,
             &table,
             &correlation,

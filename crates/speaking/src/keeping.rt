@@ -2,8 +2,8 @@
 use drawing::Out;
 use machine::State;
 use papers::{Desk, Said, braked, is_braked, live_in, put_lost};
-use plan::Answer;
 use plan::table::LENGTH;
+use plan::{Accepted, Refusal};
 use sayings::put_refused;
 use text::Hex;
 
@@ -13,15 +13,8 @@ pub(crate) fn activities_of(state: State) -> usize {
     let mut flags = [0u8; 16];
     let a = machine::limits::planned(state, &mut table, &mut flags);
     match a {
-        Answer::Refused {
-            number: _,
-            place: _,
-        } => 0,
-        Answer::Accepted {
-            variables: _,
-            activities,
-            nodes: _,
-        } => activities,
+        Err(_) => 0,
+        Ok(Accepted { activities, .. }) => activities,
     }
 }
 
@@ -48,41 +41,23 @@ fn told(desk: &mut Desk) {
 }
 
 // A plan that is refused changes nothing: it is only said why.
-fn turned_down(desk: &mut Desk, refusal: u32, place: usize) {
-    desk.out.put_pair(b"plan", refusal as u64, place as u64);
+fn turned_down(desk: &mut Desk, refusal: Refusal) {
+    let Refusal { number, place } = refusal;
+    desk.out.put_pair(b"plan", u64::from(number), place as u64);
     desk.out.go_on();
-    put_refused(&mut desk.out, refusal);
-    desk.answer(refusal);
+    put_refused(&mut desk.out, number);
+    desk.answer(number);
 }
 
-// Whether some bytes are a plan.
-fn answer_of(bytes: &[u8], count: usize) -> Answer {
-    let mut table = [0u32; LENGTH];
-    let mut flags = [0u8; 16];
-    if count <= bytes.len() {
-        return plan::accept(&bytes[0..count], &mut table, &mut flags);
-    }
-    Answer::Refused {
-        number: 2,
-        place: 0,
-    }
-}
-
-fn answer_in(bytes: &[u8; 8000], count: usize) -> Answer {
-    answer_of(bytes, count)
-}
-
-// What a word of hexadecimal is as a plan; what is no hexadecimal is left to the console to answer.
-fn plan_of(word: &[u8]) -> Answer {
+// Why a word of hexadecimal is no plan, where it is none; what is no hexadecimal is left to the console to answer.
+fn refusal_of(word: &[u8]) -> Option<Refusal> {
     let mut given = [0u8; 8000];
-    let h = text::decode(word, &mut given);
-    match h {
-        Hex::Bytes { count } => answer_in(&given, count),
-        Hex::Long | Hex::Bad => Answer::Accepted {
-            variables: 0,
-            activities: 0,
-            nodes: 0,
-        },
+    match text::decode(word, &mut given) {
+        Hex::Bytes { count } => {
+            let plan = given.get(..count).unwrap_or(&given);
+            plan::accept(plan, &mut [0u32; LENGTH], &mut [0u8; 16]).err()
+        }
+        Hex::Long | Hex::Bad => None,
     }
 }
 
@@ -90,22 +65,11 @@ fn plan_of(word: &[u8]) -> Answer {
 pub(crate) fn plan(desk: &mut Desk, word: &[u8], number: u64) {
     if is_braked(desk) {
         braked(desk, number, b"plan");
+    } else if let Some(refusal) = refusal_of(word) {
+        turned_down(desk, refusal);
     } else {
-        let a = plan_of(word);
-        match a {
-            Answer::Refused {
-                number: refusal,
-                place,
-            } => turned_down(desk, refusal, place),
-            Answer::Accepted {
-                variables: _,
-                activities: _,
-                nodes: _,
-            } => {
-                papers::load(desk, word, number);
-                told(desk);
-            }
-        }
+        papers::load(desk, word, number);
+        told(desk);
     }
 }
 

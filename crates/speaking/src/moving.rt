@@ -5,7 +5,7 @@ use drawing::Out;
 use machine::{Collected, Message, State, Step, Tally};
 use order::Order;
 use papers::{Desk, Said};
-use plan::Answer;
+use plan::Accepted;
 use plan::table::LENGTH;
 use run::Ran;
 use sayings::put_refused;
@@ -34,15 +34,10 @@ fn put_taken(out: &mut Out, names: &[u8; 16896], state: State, x: Step) {
     let m = message_in(messages, x.place);
     let a = machine::limits::planned(state, &mut table, &mut flags);
     match a {
-        Answer::Refused {
-            number: _,
-            place: _,
-        } => {}
-        Answer::Accepted {
-            variables: _,
-            activities,
-            nodes: _,
-        } => telling::put_step(out, names, &table, &flags, activities, order, m, x),
+        Err(_) => {}
+        Ok(Accepted { activities, .. }) => telling::put_step(
+            out, names, &table, &flags, activities, order, m, x,
+        ),
     }
 }
 
@@ -192,15 +187,8 @@ fn put_out(out: &mut Out, names: &[u8; 16896], state: State, m: Message) {
     let mut flags = [0u8; 16];
     let a = machine::limits::planned(state, &mut table, &mut flags);
     match a {
-        Answer::Refused {
-            number: _,
-            place: _,
-        } => {}
-        Answer::Accepted {
-            variables: _,
-            activities,
-            nodes: _,
-        } => telling::put_letter(out, names, &table, activities, m),
+        Err(_) => {}
+        Ok(Accepted { activities, .. }) => telling::put_letter(out, names, &table, activities, m),
     }
 }
 

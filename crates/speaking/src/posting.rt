@@ -5,7 +5,7 @@ use machine::{Message, State};
 use names::Stands;
 use papers::Desk;
 use phrases::{has_more, part};
-use plan::Answer;
+use plan::Accepted;
 use plan::table::{LENGTH, Table};
 use text::Word;
 
@@ -110,15 +110,8 @@ fn put_waits(out: &mut Out, names: &[u8; 16896], state: State, m: Message) {
     let mut flags = [0u8; 16];
     let a = machine::limits::planned(state, &mut table, &mut flags);
     match a {
-        Answer::Refused {
-            number: _,
-            place: _,
-        } => {}
-        Answer::Accepted {
-            variables: _,
-            activities,
-            nodes: _,
-        } => {
+        Err(_) => {}
+        Ok(Accepted { activities, .. }) => {
             telling::put_letter(out, names, &table, activities, m);
             out.put(b"; waits at place");
             out.put_next(state.waiting as u64);

@@ -3,7 +3,7 @@ use super::keeping::activities_of;
 use drawing::Out;
 use machine::{Message, State, Tally};
 use papers::{Desk, Said};
-use plan::Answer;
+use plan::Accepted;
 use plan::table::{LENGTH, Table};
 use sayings::put_refused;
 
@@ -154,15 +154,15 @@ fn put_waiting(out: &mut Out, names: &[u8; 16896], state: State) {
     let messages = state.messages;
     let a = machine::limits::planned(state, &mut table, &mut flags);
     match a {
-        Answer::Refused {
-            number: _,
-            place: _,
-        } => out.put_byte(b'\n'),
-        Answer::Accepted {
-            variables: _,
+        Err(_) => out.put_byte(b'\n'),
+        Ok(Accepted { activities, .. }) => put_all(
+            out,
+            names,
+            &table,
             activities,
-            nodes: _,
-        } => put_all(out, names, &table, activities, messages, state.waiting),
+            messages,
+            state.waiting,
+        ),
     }
 }
 

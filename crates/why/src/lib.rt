@@ -11,7 +11,7 @@ mod undo;
 use drawing::{Out, put_variable};
 use machine::State;
 use order::Order;
-use plan::Answer;
+use plan::Accepted;
 use plan::table::{LENGTH, Table};
 use telling::value_in;
 pub use undo::put_undone;
@@ -149,15 +149,10 @@ pub fn put_why(out: &mut Out, names: &[u8; 16896], state: State, only: usize) {
     let mut flags = [0u8; 16];
     let a = machine::limits::planned(state, &mut table, &mut flags);
     match a {
-        Answer::Refused {
-            number: _,
-            place: _,
-        } => {}
-        Answer::Accepted {
-            variables: _,
-            activities,
-            nodes: _,
-        } => put_all(out, names, &table, &flags, activities, state, only),
+        Err(_) => {}
+        Ok(Accepted { activities, .. }) => put_all(
+            out, names, &table, &flags, activities, state, only,
+        ),
     }
 }
 

@@ -224,15 +224,8 @@ pub fn put_offers(out: &mut Out, names: &[u8; 16896], state: State) {
     let o = offer::offers(state);
     let a = machine::limits::planned(state, &mut table, &mut flags);
     match a {
-        Answer::Refused {
-            number: _,
-            place: _,
-        } => out.put_refusal(b"offers", 17),
-        Answer::Accepted {
-            variables: _,
-            activities: _,
-            nodes: _,
-        } => {
+        Err(_) => out.put_refusal(b"offers", 17),
+        Ok(_) => {
             put_count(out, b"offers", o);
             out.put_byte(b'\n');
             put_choices(out, names, &table, &flags, state, o.many);

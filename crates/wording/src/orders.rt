@@ -3,7 +3,7 @@ use super::doing::{doing_of, part_in, put_doing, scope_in};
 use drawing::{Out, put_drawn, put_member, put_scope};
 use machine::State;
 use order::Order;
-use plan::Answer;
+use plan::Accepted;
 use plan::table::{LENGTH, Table};
 
 // The order in a slot; what a free slot holds where there is no such slot.
@@ -222,15 +222,15 @@ pub fn put_orders(out: &mut Out, names: &[u8; 16896], state: State) {
     let orders = state.orders;
     let a = machine::limits::planned(state, &mut table, &mut correlation);
     match a {
-        Answer::Refused {
-            number: _,
-            place: _,
-        } => out.put_refusal(b"orders", 17),
-        Answer::Accepted {
+        Err(_) => out.put_refusal(b"orders", 17),
+        Ok(Accepted { variables, .. }) => put_order_lines(
+            out,
+            names,
+            &table,
+            &correlation,
             variables,
-            activities: _,
-            nodes: _,
-        } => put_order_lines(out, names, &table, &correlation, variables, orders),
+            orders,
+        ),
     }
 }
 
@@ -307,15 +307,14 @@ pub fn put_order(out: &mut Out, names: &[u8; 16896], state: State, slot: usize) 
     let order = order_in(orders, slot);
     let a = machine::limits::planned(state, &mut table, &mut correlation);
     match a {
-        Answer::Refused {
-            number: _,
-            place: _,
-        } => out.put_refusal(b"order", 17),
-        Answer::Accepted {
-            variables,
-            activities,
-            nodes: _,
-        } => put_drawn_order(
+        Err(_) => out.put_refusal(b"order", 17),
+        Ok(
+            Accepted {
+                variables,
+                activities,
+                ..
+            },
+        ) => put_drawn_order(
             out,
             names,
             &table,
