@@ -35,7 +35,7 @@ fn behind(line: &[u8], place: usize) -> &[u8] {
 }
 
 // What stands behind a text that begins so, where it does.
-fn after(text: &[u8], start: &[u8]) -> Option<&[u8]> {
+fn after<'a>(text: &'a [u8], start: &[u8]) -> Option<&'a [u8]> {
     if text.starts_with(start) {
         return text.get(start.len()..);
     }

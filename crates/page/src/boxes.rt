@@ -163,10 +163,11 @@ fn width_for(
     order: Order,
     n: usize,
 ) -> usize {
-    let mut out = like.measure();
-    put_label(&mut out, names, table, flags, n);
-    put_state(&mut out, doing::doing_of(table, order, n), order, n);
-    sizes::width_for(table, n, plus(label, state))
+    let mut label = like.measure();
+    put_label(&mut label, names, table, flags, n);
+    let mut state = like.measure();
+    put_state(&mut state, doing::doing_of(table, order, n), order, n);
+    sizes::width_for(table, n, plus(label.len(), state.len()))
 }
 
 fn wider(x: usize, y: usize) -> usize {
