@@ -119,12 +119,11 @@ pub fn answer(
     names: &mut [u8; 16896],
     out: &mut Out,
 ) -> Desk {
-    let c = commands::command_of(line);
-    match c {
-        Command::Nothing => desk,
-        Command::Wrong { why } => wrong(desk, number, why, out),
-        Command::Alone { what } => answer_alone(desk, what, number, bytes, names, out),
-        Command::Worded { what, from, to } => answer_worded(
+    match commands::command_of(line) {
+        Ok(Command::Nothing) => desk,
+        Err(why) => wrong(desk, number, why, out),
+        Ok(Command::Alone { what }) => answer_alone(desk, what, number, bytes, names, out),
+        Ok(Command::Worded { what, from, to }) => answer_worded(
             desk,
             what,
             &line[from..to],
@@ -133,7 +132,7 @@ pub fn answer(
             names,
             out,
         ),
-        Command::Numbered { what, k } => answer_numbered(desk, what, k, number, bytes, names, out),
-        Command::Listed { what, from } => answer_listed(desk, what, line, from, number, out),
+        Ok(Command::Numbered { what, k }) => answer_numbered(desk, what, k, number, bytes, names, out),
+        Ok(Command::Listed { what, from }) => answer_listed(desk, what, line, from, number, out),
     }
 }

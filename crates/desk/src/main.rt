@@ -10,7 +10,6 @@ use incoming::Incoming;
 use papers::Desk;
 use phrases::What;
 use std::io::Read;
-use text::Line;
 
 // The console; the text of a plan that comes in; the number of lines ended so far; how many bytes of the present line are kept; whether each line
 // is repeated before its answer, whether an error ends the session, and whether who types is asked for the next line; and whether input may follow.
@@ -50,8 +49,7 @@ fn more(n: u64) -> u64 {
 // A line as it was read: after a prompt, where it is no comment and not blank.
 fn put_echo(out: &mut Out, used: usize, line: &[u8]) -> usize {
     let mut at = used;
-    let c = commands::command_of(line);
-    if let Command::Nothing = c {
+    if let Ok(Command::Nothing) = commands::command_of(line) {
         at = drawing::put(out, at, line);
     } else {
         at = drawing::put(out, at, b"> ");
@@ -88,18 +86,12 @@ fn text_echoed(desk: Desk, echo: bool, line: &[u8], out: &mut Out) -> Desk {
 
 // Whether the lines that follow a line are a text.
 fn is_write(line: &[u8]) -> bool {
-    let p = phrases::phrase_of(line);
-    let what = p.what;
-    match what {
-        What::Write => true,
-        _ => false,
-    }
+    matches!(phrases::phrase_of(line).what, Ok(Some(What::Write)))
 }
 
 // Whether it is one that drops what is live.
 fn is_bold(line: &[u8]) -> bool {
-    let p = phrases::phrase_of(line);
-    p.bold
+    phrases::phrase_of(line).bold
 }
 
 // A text begins.
@@ -247,10 +239,9 @@ fn ended_at(
     names: &mut [u8; 16896],
     out: &mut Out,
 ) -> Session {
-    let l = text::line_of(kept);
-    match l {
-        Line::Long => too_long(s, out),
-        Line::Text { length } => {
+    match text::line_of(kept) {
+        None => too_long(s, out),
+        Some(length) => {
             if length <= kept.len() {
                 return taken(s, &kept[0..length], text, bytes, names, out);
             }

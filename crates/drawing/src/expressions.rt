@@ -2,19 +2,20 @@
 use super::naming::put_variable;
 use super::output::{Out, put, put_byte, put_number};
 use super::table::{code_of, value_of};
+use forms::Form;
 use plan::table::Table;
 
-fn put_operator(out: &mut Out, used: usize, form: u32) -> usize {
+fn put_operator(out: &mut Out, used: usize, form: Form) -> usize {
     match form {
-        2 => put(out, used, b" + "),
-        3 => put(out, used, b" - "),
-        4 => put(out, used, b" = "),
-        5 => put(out, used, b" < "),
-        forms::AND => put(out, used, b" and "),
-        forms::OR => put(out, used, b" or "),
-        forms::NOT_LESS => put(out, used, b" >= "),
-        forms::MORE => put(out, used, b" > "),
-        forms::NOT_MORE => put(out, used, b" <= "),
+        Form::Plus => put(out, used, b" + "),
+        Form::Minus => put(out, used, b" - "),
+        Form::Equal => put(out, used, b" = "),
+        Form::Less => put(out, used, b" < "),
+        Form::And => put(out, used, b" and "),
+        Form::Or => put(out, used, b" or "),
+        Form::NotLess => put(out, used, b" >= "),
+        Form::More => put(out, used, b" > "),
+        Form::NotMore => put(out, used, b" <= "),
         _ => put(out, used, b" != "),
     }
 }
@@ -55,7 +56,7 @@ pub(crate) fn put_expression(
     let form = forms::form_of(table, m);
     let first = forms::first_of(table, m, form);
     let opened = put_if(out, used, operand, 40);
-    if form == forms::NOT {
+    if form == Form::Not {
         let not = put(out, opened, b"not ");
         let whole = put_expression(out, not, names, table, first, depth - 1, true);
         return put_if(out, whole, operand, 41);

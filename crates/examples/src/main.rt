@@ -6,7 +6,6 @@
 use drawing::Out;
 use papers::Desk;
 use std::io::Read;
-use text::Line;
 
 // The console; the number of lines ended so far; how many bytes of the present line are kept; the examples begun, and those that agreed, the
 // present one not counted; the line at which the present one was first answered otherwise, or 0; how much of the report waits to be written; and
@@ -220,10 +219,9 @@ fn ended_at(
     bytes: &mut [u8; 8000],
     report: &mut Out,
 ) -> Session {
-    let l = text::line_of(kept);
-    match l {
-        Line::Long => too_long(s, number),
-        Line::Text { length } => answered(s, part(kept, 0, length), number, bytes, report),
+    match text::line_of(kept) {
+        None => too_long(s, number),
+        Some(length) => answered(s, part(kept, 0, length), number, bytes, report),
     }
 }
 

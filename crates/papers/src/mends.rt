@@ -4,7 +4,7 @@ use super::writing::forget;
 use super::{Desk, failed, refused};
 use drawing::{Out, put, put_byte, put_error, put_hex, put_number, put_pair};
 use mend::Answer;
-use text::Hex;
+use text::HexError;
 
 // How many groups were cut, and the mended plan.
 fn put_mended(plan: &[u8], cut: usize, out: &mut Out, used: usize) -> usize {
@@ -91,14 +91,13 @@ pub fn mend(
     out: &mut Out,
 ) -> Desk {
     let mut given = [0u8; 8000];
-    let h = text::decode(word, &mut given);
-    match h {
-        Hex::Bytes { count } => mend_in(desk, &given, count, bytes, names, out),
-        Hex::Long => {
+    match text::decode(word, &mut given) {
+        Ok(count) => mend_in(desk, &given, count, bytes, names, out),
+        Err(HexError::Long) => {
             let used = put_error(out, desk.used, number, b"more than 8000 bytes");
             failed(desk, used)
         }
-        Hex::Bad => {
+        Err(HexError::Bad) => {
             let used = put_error(out, desk.used, number, b"not hexadecimal");
             failed(desk, used)
         }

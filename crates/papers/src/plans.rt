@@ -7,7 +7,7 @@ use drawing::{
 use machine::Loaded;
 use plan::Answer;
 use plan::table::{LENGTH, Table};
-use text::Hex;
+use text::HexError;
 
 // What a plan is found to be.
 fn put_plan(s: &[u8], out: &mut Out, used: usize) -> usize {
@@ -186,18 +186,17 @@ pub fn load(
     names: &mut [u8; 16896],
     out: &mut Out,
 ) -> Desk {
-    let h = text::decode(word, bytes);
-    match h {
-        Hex::Bytes { count } => {
+    match text::decode(word, bytes) {
+        Ok(count) => {
             let before = desk.state;
             forget(before, bytes, count, names);
             loaded_in(desk, bytes, count, out)
         }
-        Hex::Long => {
+        Err(HexError::Long) => {
             let used = put_error(out, desk.used, number, b"more than 8000 bytes");
             failed(desk, used)
         }
-        Hex::Bad => {
+        Err(HexError::Bad) => {
             let used = put_error(out, desk.used, number, b"not hexadecimal");
             failed(desk, used)
         }

@@ -3,7 +3,6 @@ use drawing::{Out, put, put_byte, put_next};
 use machine::State;
 use order::Order;
 use papers::{Desk, failed, shown};
-use text::Decimal;
 
 // The variable that `v0`, `v1` and so on stand for; 16 where a word is none of these.
 fn variable_by_number(word: &[u8]) -> usize {
@@ -13,10 +12,9 @@ fn variable_by_number(word: &[u8]) -> usize {
     if word[0] != 118 {
         return 16;
     }
-    let d = text::decimal_of(&word[1..]);
-    match d {
-        Decimal::Value { value } => least(value as usize),
-        Decimal::Large | Decimal::Bad => 16,
+    match text::decimal_of(&word[1..]) {
+        Ok(value) => least(value as usize),
+        Err(_) => 16,
     }
 }
 
@@ -28,11 +26,10 @@ fn least(v: usize) -> usize {
 }
 
 fn variable_of(names: &[u8; 16896], word: &[u8]) -> usize {
-    let v = names::variable_named(names, word);
-    if v < 16 {
-        return v;
+    match names::variable_named(names, word) {
+        Some(v) => least(v as usize),
+        None => variable_by_number(word),
     }
-    variable_by_number(word)
 }
 
 // Whether an order has this value in a variable.

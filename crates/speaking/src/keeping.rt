@@ -5,7 +5,6 @@ use papers::{Desk, braked, failed, is_braked, live_in, put_lost, refused, shown}
 use plan::Answer;
 use plan::table::LENGTH;
 use sayings::put_refused;
-use text::Hex;
 
 // How many activities and arms the plan of a state has.
 pub(crate) fn activities_of(state: State) -> usize {
@@ -74,10 +73,9 @@ fn answer_in(bytes: &[u8; 8000], count: usize) -> Answer {
 // What a word of hexadecimal is as a plan; what is no hexadecimal is left to the console to answer.
 fn plan_of(word: &[u8]) -> Answer {
     let mut given = [0u8; 8000];
-    let h = text::decode(word, &mut given);
-    match h {
-        Hex::Bytes { count } => answer_in(&given, count),
-        Hex::Long | Hex::Bad => Answer::Accepted {
+    match text::decode(word, &mut given) {
+        Ok(count) => answer_in(&given, count),
+        Err(_) => Answer::Accepted {
             variables: 0,
             activities: 0,
             nodes: 0,

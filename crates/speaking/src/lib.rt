@@ -14,7 +14,7 @@ use commands::{Alone, Command, Listed, Numbered};
 use drawing::Out;
 pub use keeping::{is_at_risk, put_risk, written};
 use papers::Desk;
-use phrases::{Phrase, What, part};
+use phrases::{Phrase, What};
 
 // A command that stands alone.
 fn answer_alone(
@@ -82,20 +82,15 @@ fn told(
     names: &mut [u8; 16896],
     out: &mut Out,
 ) -> Desk {
-    let c = commands::command_of(line);
-    match c {
-        Command::Nothing => desk,
-        Command::Wrong { why } => console::wrong(desk, number, why, out),
-        Command::Alone { what } => answer_alone(desk, what, line, number, bytes, names, out),
-        Command::Worded {
-            what: _,
-            from: _,
-            to: _,
-        } => desk,
-        Command::Numbered { what, k } => answer_numbered(
+    match commands::command_of(line) {
+        Ok(Command::Nothing) => desk,
+        Err(why) => console::wrong(desk, number, why, out),
+        Ok(Command::Alone { what }) => answer_alone(desk, what, line, number, bytes, names, out),
+        Ok(Command::Worded { .. }) => desk,
+        Ok(Command::Numbered { what, k }) => answer_numbered(
             desk, what, k, line, number, bytes, names, out,
         ),
-        Command::Listed { what, from } => answer_listed(desk, what, line, from, number, names, out),
+        Ok(Command::Listed { what, from }) => answer_listed(desk, what, line, from, number, names, out),
     }
 }
 
@@ -114,112 +109,40 @@ fn usual(
     console::answer(desk, line, number, bytes, names, out)
 }
 
-// A command on plans and files, of which this is the word behind it.
-fn kept(
-    desk: Desk,
-    what: What,
-    word: &[u8],
-    number: u64,
-    bytes: &mut [u8; 8000],
-    names: &mut [u8; 16896],
-    out: &mut Out,
-) -> Desk {
-    match what {
-        What::Plan => keeping::plan(desk, word, number, bytes, names, out),
-        What::Mend => keeping::mend(desk, word, number, bytes, names, out),
-        What::Save => keeping::save(desk, word, number, names, out),
-        What::Open => keeping::open(desk, word, number, bytes, names, out),
-        What::Page => keeping::page(desk, word, number, names, out),
-        _ => desk,
-    }
-}
-
-// What is said beyond the commands, and changes no plan and no file.
-fn said(
-    desk: Desk,
-    p: Phrase,
-    line: &[u8],
-    number: u64,
-    names: &[u8; 16896],
-    out: &mut Out,
-) -> Desk {
-    let what = p.what;
-    match what {
-        What::Plain => helping::plain(desk, out),
-        What::Spoken => helping::spoken(desk, out),
-        What::Quit => keeping::quit(desk, number, out),
-        What::Help => helping::help(desk, out),
-        What::HelpOn => helping::help_on(desk, part(line, p.from, p.to), number, out),
-        What::Why => asking::why(desk, names, out),
-        What::WhyOne => asking::why_one(desk, p.number, number, names, out),
-        What::Go => moving::go(desk, p.number, names, out),
-        What::CollectAll => moving::collect_all(desk, names, out),
-        What::Drop => moving::drop_at(desk, p.number, names, out),
-        What::OrderBy => finding::order_by(
-            desk,
-            part(line, p.from, p.to),
-            p.number,
-            number,
-            names,
-            out,
-        ),
-        _ => {
-            let why = p.why;
-            console::wrong(desk, number, why, out)
-        }
-    }
-}
-
-// Whether a line is about plans and files; without the brakes of a person it is the console's.
-fn is_kept(what: What) -> bool {
-    match what {
-        What::Plan | What::Mend | What::Save | What::Open | What::Page => true,
-        _ => false,
-    }
-}
-
-fn is_nothing(what: What) -> bool {
-    match what {
-        What::Nothing | What::Write => true,
-        _ => false,
-    }
-}
-
 // A line that is more than a command of the console.
 fn phrased(
     desk: Desk,
-    p: Phrase,
-    line: &[u8],
+    what: Result<Option<What>, Trouble>,
     number: u64,
     bytes: &mut [u8; 8000],
     names: &mut [u8; 16896],
     out: &mut Out,
 ) -> Desk {
-    let what = p.what;
-    if is_kept(what) {
-        return kept(
-            desk,
-            what,
-            part(line, p.from, p.to),
-            number,
-            bytes,
-            names,
-            out,
-        );
+    match what {
+        Ok(Some(What::Plan { word })) => keeping::plan(desk, word, number, bytes, names, out),
+        Ok(Some(What::Mend { word })) => keeping::mend(desk, word, number, bytes, names, out),
+        Ok(Some(What::Save { name })) => keeping::save(desk, name, number, names, out),
+        Ok(Some(What::Open { name })) => keeping::open(desk, name, number, bytes, names, out),
+        Ok(Some(What::Page { name })) => keeping::page(desk, name, number, names, out),
+        Ok(Some(What::Plain)) => helping::plain(desk, out),
+        Ok(Some(What::Spoken)) => helping::spoken(desk, out),
+        Ok(Some(What::Quit)) => keeping::quit(desk, number, out),
+        Ok(Some(What::Help)) => helping::help(desk, out),
+        Ok(Some(What::HelpOn { word })) => helping::help_on(desk, word, number, out),
+        Ok(Some(What::Why)) => asking::why(desk, names, out),
+        Ok(Some(What::WhyOne { k })) => asking::why_one(desk, k, number, names, out),
+        Ok(Some(What::Go { steps })) => moving::go(desk, steps, names, out),
+        Ok(Some(What::CollectAll)) => moving::collect_all(desk, names, out),
+        Ok(Some(What::Drop { place })) => moving::drop_at(desk, place, names, out),
+        Ok(Some(What::OrderBy { variable, value })) => finding::order_by(desk, variable, value, number, names, out),
+        Ok(Some(What::Write) | None) => desk,
+        Err(why) => console::wrong(desk, number, why, out),
     }
-    said(desk, p, line, number, names, out)
 }
 
 // Whether the console answers a line: it is one of its commands, and nobody asks for more.
 fn is_usual(spoken: bool, p: Phrase) -> bool {
-    let what = p.what;
-    if is_nothing(what) {
-        return true;
-    }
-    if spoken {
-        return false;
-    }
-    p.old
+    matches!(p.what, Ok(Some(What::Write) | None)) || !spoken && p.old
 }
 
 // The answer to a line, whose number is `number`.
@@ -238,5 +161,5 @@ pub fn answer(
     if is_usual(d.spoken, p) {
         return usual(d, line, number, bytes, names, out);
     }
-    phrased(d, p, line, number, bytes, names, out)
+    phrased(d, p.what, number, bytes, names, out)
 }
