@@ -83,6 +83,7 @@ impl From<DecimalError> for Trouble {
 }
 
 // A command of the desk with what it takes. The numbers of a list are still to be read, from `from` on.
+// Stays: (a) the places of a word and not its text, since `command_of` of specs/Commands.antt and its clause `inside` name them.
 #[derive(Clone, Copy, PartialEq, Eq, Debug, Drop)]
 pub enum Command {
     // a comment, or a blank line

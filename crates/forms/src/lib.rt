@@ -55,6 +55,11 @@ pub fn value_of(table: &Table, m: usize) -> u32 {
     if m < 4096 { table[VALUES + m * 2] } else { 0 }
 }
 
+// What node m is by its own code.
+fn own_form(table: &Table, m: usize) -> Form {
+    Form::from(code_of(table, m))
+}
+
 // The node that the left operand of node m starts with, and the right one's.
 fn left_of(m: usize) -> usize {
     if m < 4096 { m + 1 } else { m }
@@ -65,29 +70,30 @@ fn right_of(table: &Table, m: usize) -> usize {
 }
 
 fn is_zero(table: &Table, m: usize) -> bool {
-    code_of(table, m) == 0 && value_of(table, m) == 0
+    own_form(table, m) == Form::Constant && value_of(table, m) == 0
 }
 
 // Equal and less, which give 1 or 0.
 fn is_comparison(table: &Table, m: usize) -> bool {
-    matches!(code_of(table, m), 4 | 5)
+    matches!(own_form(table, m), Form::Equal | Form::Less)
 }
 
 // Whether node m is `E = 0`.
 fn is_negated(table: &Table, m: usize) -> bool {
-    code_of(table, m) == 4 && is_zero(table, right_of(table, m))
+    own_form(table, m) == Form::Equal && is_zero(table, right_of(table, m))
 }
 
 // Whether node m is `E + F` of two comparisons.
 fn is_sum(table: &Table, m: usize) -> bool {
-    code_of(table, m) == 2
+    own_form(table, m) == Form::Plus
         && is_comparison(table, left_of(m))
         && is_comparison(table, right_of(table, m))
 }
 
 // Whether node m compares a number with what is none: the number then stands on the right, as `tries > 2`.
 fn is_turned(table: &Table, m: usize) -> bool {
-    code_of(table, left_of(m)) == 0 && 0 < code_of(table, right_of(table, m))
+    own_form(table, left_of(m)) == Form::Constant
+        && own_form(table, right_of(table, m)) != Form::Constant
 }
 
 // A `less` by what it says: `E and F` is `(E = 0) < F` of a comparison F, `E or F` is `0 < (E + F)` of comparisons.
@@ -115,19 +121,19 @@ fn form_of_not_less(table: &Table, m: usize) -> Form {
 // What stands negated in node m: a `less`, or an `=`, which is `a != b`.
 fn form_of_negated(table: &Table, m: usize) -> Form {
     let inner = left_of(m);
-    match code_of(table, inner) {
-        5 => form_of_not_less(table, inner),
-        4 => Form::Unequal,
+    match own_form(table, inner) {
+        Form::Less => form_of_not_less(table, inner),
+        Form::Equal => Form::Unequal,
         _ => Form::Equal,
     }
 }
 
 // How operation m is drawn.
 pub fn form_of(table: &Table, m: usize) -> Form {
-    match code_of(table, m) {
-        5 => form_of_less(table, m),
-        4 if is_negated(table, m) => form_of_negated(table, m),
-        code => Form::from(code),
+    match own_form(table, m) {
+        Form::Less => form_of_less(table, m),
+        Form::Equal if is_negated(table, m) => form_of_negated(table, m),
+        form => form,
     }
 }
 

@@ -3,7 +3,7 @@ use super::{has_more, one_word, part};
 use commands::Trouble;
 use text::word_at;
 
-// The place after a byte of a line, of which no line has as many as that.
+// The place after a byte of a line. (No line has as many.)
 fn after(at: usize) -> usize {
     if at < 20000 { at + 1 } else { at }
 }

@@ -44,6 +44,7 @@ fn fill(s: &[u8], count: usize, out: &mut [u8; 8000])
 
 // The bytes that a word spells, `-` for none of them, into `out`: how many they are. `out` keeps what it has beyond them, and all that it has where
 // the word spells none.
+// Stays: (a) into an array, which the clause `put` names; and this crate allocates nothing.
 #[tactic(auto, unfolding(crate::specs::Hexadecimals::hex_of, crate::specs::Hexadecimals::filled))]
 pub fn decode(s: &[u8], out: &mut [u8; 8000]) -> Result<usize, HexError>
     ensures is { result ≡ hex_of s.now }

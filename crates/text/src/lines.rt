@@ -5,6 +5,7 @@ ghost use Rattle.text.specs.Lines.{bare as Lines·bare};
 
 // One more byte of a line of which `length` bytes are kept. There is room for 16,000 characters, a carriage return and one more, so that a
 // line that is too long is known by what is kept of it.
+// Stays: (a) an array with a length beside it, which the clauses `value` and `line_after` name; and this crate allocates nothing.
 #[tactic(auto, unfolding(crate::specs::Lines::kept))]
 pub fn keep(line: &mut [u8; 16002], length: usize, b: u8) -> usize
     ensures value { result ≡ min (length + 1) 16002 }
