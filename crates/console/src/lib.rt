@@ -80,13 +80,17 @@ fn answer_listed(desk: &mut Desk, what: Listed, line: &[u8], from: usize, number
 
 // The answer to a line, whose number is `number`. The last plan stands in `bytes`, and its names, where it was written with some, in `names`.
 pub fn answer(desk: &mut Desk, line: &[u8], number: u64) {
-    let c = commands::command_of(line);
-    match c {
-        Command::Nothing => {}
-        Command::Wrong { why } => wrong(desk, number, why),
-        Command::Alone { what } => answer_alone(desk, what, number),
-        Command::Worded { what, from, to } => answer_worded(desk, what, &line[from..to], number),
-        Command::Numbered { what, k } => answer_numbered(desk, what, k, number),
-        Command::Listed { what, from } => answer_listed(desk, what, line, from, number),
+    match commands::command_of(line) {
+        Ok(Command::Nothing) => {}
+        Ok(Command::Alone { what }) => answer_alone(desk, what, number),
+        Ok(Command::Worded { what, from, to }) => answer_worded(
+            desk,
+            what,
+            &line[from..to],
+            number,
+        ),
+        Ok(Command::Numbered { what, k }) => answer_numbered(desk, what, k, number),
+        Ok(Command::Listed { what, from }) => answer_listed(desk, what, line, from, number),
+        Err(why) => wrong(desk, number, why),
     }
 }

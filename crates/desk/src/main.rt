@@ -9,7 +9,6 @@ use incoming::{Excess, Incoming};
 use papers::{Desk, Said};
 use phrases::What;
 use std::io::Read;
-use text::Line;
 
 // The console; the text of a plan that comes in, where one does; the number of lines ended so far; the present line, as far as it is kept, and how many
 // bytes of it are; whether each line is repeated before its answer, whether an error ends the session, and whether who types is asked for the next line;
@@ -29,12 +28,12 @@ struct Session {
 
 // Whether the lines that follow a line are a text.
 fn is_write(line: &[u8]) -> bool {
-    matches!(phrases::phrase_of(line).what, What::Write)
+    matches!(phrases::phrase_of(line).what, Ok(Some(What::Write)))
 }
 
 // Whether a line is no command: a comment, or blank.
 fn is_nothing(line: &[u8]) -> bool {
-    matches!(commands::command_of(line), Command::Nothing)
+    matches!(commands::command_of(line), Ok(Command::Nothing))
 }
 
 // The first bytes of a line, so many of them; all where there are fewer.
@@ -140,8 +139,8 @@ impl Session {
         self.lines = self.lines.saturating_add(1);
         self.length = 0;
         match text::line_of(kept) {
-            Line::Long => self.too_long(),
-            Line::Text { length } => self.taken(first(kept, length)),
+            Some(length) => self.taken(first(kept, length)),
+            None => self.too_long(),
         }
         self.gone_on();
     }

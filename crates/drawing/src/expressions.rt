@@ -2,19 +2,20 @@
 use super::naming::put_variable;
 use super::output::Out;
 use super::table::{code_of, value_of};
+use forms::Form;
 use plan::table::Table;
 
-fn put_operator(out: &mut Out, form: u32) {
+fn put_operator(out: &mut Out, form: Form) {
     match form {
-        2 => out.put(b" + "),
-        3 => out.put(b" - "),
-        4 => out.put(b" = "),
-        5 => out.put(b" < "),
-        forms::AND => out.put(b" and "),
-        forms::OR => out.put(b" or "),
-        forms::NOT_LESS => out.put(b" >= "),
-        forms::MORE => out.put(b" > "),
-        forms::NOT_MORE => out.put(b" <= "),
+        Form::Plus => out.put(b" + "),
+        Form::Minus => out.put(b" - "),
+        Form::Equal => out.put(b" = "),
+        Form::Less => out.put(b" < "),
+        Form::And => out.put(b" and "),
+        Form::Or => out.put(b" or "),
+        Form::NotLess => out.put(b" >= "),
+        Form::More => out.put(b" > "),
+        Form::NotMore => out.put(b" <= "),
         _ => out.put(b" != "),
     }
 }
@@ -56,7 +57,7 @@ pub(crate) fn put_expression(
     let form = forms::form_of(table, m);
     let first = forms::first_of(table, m, form);
     put_if(out, operand, 40);
-    if form == forms::NOT {
+    if form == Form::Not {
         out.put(b"not ");
         put_expression(out, names, table, first, depth - 1, true);
         put_if(out, operand, 41);

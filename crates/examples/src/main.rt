@@ -6,7 +6,6 @@
 use drawing::Out;
 use papers::Desk;
 use std::io::Read;
-use text::Line;
 
 // The console, and what is reported; the number of lines ended so far; the present line, as far as it is kept, and how many bytes of it are; the examples
 // begun, and those that agreed, the present one not counted; the line at which the present one was first answered otherwise, where it was; and whether input
@@ -119,8 +118,8 @@ impl Session {
         self.lines = self.lines.saturating_add(1);
         self.length = 0;
         match text::line_of(kept) {
-            Line::Long => self.differ(self.lines),
-            Line::Text { length } => self.answered(first(kept, length)),
+            Some(length) => self.answered(first(kept, length)),
+            None => self.differ(self.lines),
         }
     }
 

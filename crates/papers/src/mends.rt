@@ -4,7 +4,7 @@ use super::writing::forget;
 use super::{Desk, first};
 use drawing::Out;
 use mend::Answer;
-use text::Hex;
+use text::HexError;
 
 // How many groups were cut, and the mended plan.
 fn put_mended(plan: &[u8], cut: usize, out: &mut Out) {
@@ -37,8 +37,8 @@ fn mend_into(desk: &mut Desk, padded: &[u8]) {
 pub fn mend(desk: &mut Desk, word: &[u8], number: u64) {
     let mut given = [0u8; 8000];
     match text::decode(word, &mut given) {
-        Hex::Bytes { count } => mend_into(desk, first(&given, count)),
-        Hex::Long => desk.error(number, b"more than 8000 bytes"),
-        Hex::Bad => desk.error(number, b"not hexadecimal"),
+        Ok(count) => mend_into(desk, first(&given, count)),
+        Err(HexError::Long) => desk.error(number, b"more than 8000 bytes"),
+        Err(HexError::Bad) => desk.error(number, b"not hexadecimal"),
     }
 }

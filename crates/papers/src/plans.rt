@@ -4,7 +4,7 @@ use super::{Desk, first};
 use drawing::{Out, put_drawing, put_names};
 use plan::table::{LENGTH, Table};
 use plan::{Accepted, Refusal};
-use text::Hex;
+use text::HexError;
 
 // What a plan is found to be.
 fn put_plan(s: &[u8], out: &mut Out) {
@@ -114,12 +114,12 @@ pub(crate) fn fresh(desk: &mut Desk, length: usize) {
 // A plan in hexadecimal becomes the last plan, with a fresh state; what is no hexadecimal changes nothing.
 pub fn load(desk: &mut Desk, word: &[u8], number: u64) {
     match text::decode(word, &mut desk.bytes) {
-        Hex::Bytes { count } => {
+        Ok(count) => {
             forget(desk.state, &desk.bytes, count, &mut desk.names);
             put_plan(first(&desk.bytes, count), &mut desk.out);
             fresh(desk, count);
         }
-        Hex::Long => desk.error(number, b"more than 8000 bytes"),
-        Hex::Bad => desk.error(number, b"not hexadecimal"),
+        Err(HexError::Long) => desk.error(number, b"more than 8000 bytes"),
+        Err(HexError::Bad) => desk.error(number, b"not hexadecimal"),
     }
 }

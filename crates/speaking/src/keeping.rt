@@ -5,7 +5,6 @@ use papers::{Desk, Said, braked, is_braked, live_in, put_lost};
 use plan::table::LENGTH;
 use plan::{Accepted, Refusal};
 use sayings::put_refused;
-use text::Hex;
 
 // How many activities and arms the plan of a state has.
 pub(crate) fn activities_of(state: State) -> usize {
@@ -53,11 +52,11 @@ fn turned_down(desk: &mut Desk, refusal: Refusal) {
 fn refusal_of(word: &[u8]) -> Option<Refusal> {
     let mut given = [0u8; 8000];
     match text::decode(word, &mut given) {
-        Hex::Bytes { count } => {
+        Ok(count) => {
             let plan = given.get(..count).unwrap_or(&given);
             plan::accept(plan, &mut [0u32; LENGTH], &mut [0u8; 16]).err()
         }
-        Hex::Long | Hex::Bad => None,
+        Err(_) => None,
     }
 }
 

@@ -10,10 +10,10 @@ mod moving;
 mod posting;
 mod viewing;
 
-use commands::{Alone, Command, Listed, Numbered};
+use commands::{Alone, Command, Listed, Numbered, Trouble};
 pub use keeping::{is_at_risk, put_risk, written};
 use papers::{Desk, Said};
-use phrases::{Phrase, What, part};
+use phrases::{Phrase, What};
 
 // A command that stands alone.
 fn answer_alone(desk: &mut Desk, what: Alone, line: &[u8], number: u64) {
@@ -49,18 +49,13 @@ fn answer_listed(desk: &mut Desk, what: Listed, line: &[u8], from: usize, number
 
 // A command of the console, with words.
 fn told(desk: &mut Desk, line: &[u8], number: u64) {
-    let c = commands::command_of(line);
-    match c {
-        Command::Nothing => {}
-        Command::Wrong { why } => console::wrong(desk, number, why),
-        Command::Alone { what } => answer_alone(desk, what, line, number),
-        Command::Worded {
-            what: _,
-            from: _,
-            to: _,
-        } => {}
-        Command::Numbered { what, k } => answer_numbered(desk, what, k, line, number),
-        Command::Listed { what, from } => answer_listed(desk, what, line, from, number),
+    match commands::command_of(line) {
+        Ok(Command::Nothing) => {}
+        Ok(Command::Alone { what }) => answer_alone(desk, what, line, number),
+        Ok(Command::Worded { .. }) => {}
+        Ok(Command::Numbered { what, k }) => answer_numbered(desk, what, k, line, number),
+        Ok(Command::Listed { what, from }) => answer_listed(desk, what, line, from, number),
+        Err(why) => console::wrong(desk, number, why),
     }
 }
 
@@ -73,75 +68,35 @@ fn usual(desk: &mut Desk, line: &[u8], number: u64) {
     }
 }
 
-// A command on plans and files, of which this is the word behind it.
-fn kept(desk: &mut Desk, what: What, word: &[u8], number: u64) {
-    match what {
-        What::Plan => keeping::plan(desk, word, number),
-        What::Mend => keeping::mend(desk, word, number),
-        What::Save => keeping::save(desk, word, number),
-        What::Open => keeping::open(desk, word, number),
-        What::Page => keeping::page(desk, word, number),
-        _ => {}
-    }
-}
-
-// What is said beyond the commands, and changes no plan and no file.
-fn said(desk: &mut Desk, p: Phrase, line: &[u8], number: u64) {
-    let what = p.what;
-    match what {
-        What::Plain => helping::plain(desk),
-        What::Spoken => helping::spoken(desk),
-        What::Quit => keeping::quit(desk, number),
-        What::Help => helping::help(desk),
-        What::HelpOn => helping::help_on(desk, part(line, p.from, p.to), number),
-        What::Why => asking::why(desk),
-        What::WhyOne => asking::why_one(desk, p.number, number),
-        What::Go => moving::go(desk, p.number),
-        What::CollectAll => moving::collect_all(desk),
-        What::Drop => moving::drop_at(desk, p.number),
-        What::OrderBy => finding::order_by(desk, part(line, p.from, p.to), p.number, number),
-        _ => {
-            let why = p.why;
-            console::wrong(desk, number, why);
-        }
-    }
-}
-
-// Whether a line is about plans and files; without the brakes of a person it is the console's.
-fn is_kept(what: What) -> bool {
-    match what {
-        What::Plan | What::Mend | What::Save | What::Open | What::Page => true,
-        _ => false,
-    }
-}
-
-fn is_nothing(what: What) -> bool {
-    match what {
-        What::Nothing | What::Write => true,
-        _ => false,
-    }
-}
-
 // A line that is more than a command of the console.
-fn phrased(desk: &mut Desk, p: Phrase, line: &[u8], number: u64) {
-    let what = p.what;
-    if is_kept(what) {
-        kept(desk, what, part(line, p.from, p.to), number);
-    } else {
-        said(desk, p, line, number);
+fn phrased(desk: &mut Desk, what: Result<Option<What>, Trouble>, number: u64) {
+    match what {
+        Ok(Some(What::Plan { word })) => keeping::plan(desk, word, number),
+        Ok(Some(What::Mend { word })) => keeping::mend(desk, word, number),
+        Ok(Some(What::Save { name })) => keeping::save(desk, name, number),
+        Ok(Some(What::Open { name })) => keeping::open(desk, name, number),
+        Ok(Some(What::Page { name })) => keeping::page(desk, name, number),
+        Ok(Some(What::Plain)) => helping::plain(desk),
+        Ok(Some(What::Spoken)) => helping::spoken(desk),
+        Ok(Some(What::Quit)) => keeping::quit(desk, number),
+        Ok(Some(What::Help)) => helping::help(desk),
+        Ok(Some(What::HelpOn { word })) => helping::help_on(desk, word, number),
+        Ok(Some(What::Why)) => asking::why(desk),
+        Ok(Some(What::WhyOne { k })) => asking::why_one(desk, k, number),
+        Ok(Some(What::Go { steps })) => moving::go(desk, steps),
+        Ok(Some(What::CollectAll)) => moving::collect_all(desk),
+        Ok(Some(What::Drop { place })) => moving::drop_at(desk, place),
+        Ok(Some(What::OrderBy { variable, value })) => {
+            finding::order_by(desk, variable, value, number)
+        }
+        Ok(Some(What::Write) | None) => {}
+        Err(why) => console::wrong(desk, number, why),
     }
 }
 
 // Whether the console answers a line: it is one of its commands, and nobody asks for more.
 fn is_usual(spoken: bool, p: Phrase) -> bool {
-    let what = p.what;
-    if is_nothing(what) {
-        return true;
-    }
-    if spoken {
-        return false;
-    }
-    p.old
+    matches!(p.what, Ok(Some(What::Write) | None)) || !spoken && p.old
 }
 
 // The answer to a line, whose number is `number`.
@@ -152,6 +107,6 @@ pub fn answer(desk: &mut Desk, line: &[u8], number: u64) {
     if is_usual(desk.spoken, p) {
         usual(desk, line, number);
     } else {
-        phrased(desk, p, line, number);
+        phrased(desk, p.what, number);
     }
 }

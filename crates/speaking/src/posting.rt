@@ -2,7 +2,7 @@
 use commands::Trouble;
 use drawing::Out;
 use machine::{Message, State};
-use names::Stands;
+use names::NameError;
 use papers::Desk;
 use phrases::{has_more, part};
 use plan::Accepted;
@@ -34,14 +34,13 @@ fn next_of(names: &[u8; 16896], line: &[u8], at: usize, n: usize) -> Next {
     if to <= from {
         return Next::End;
     }
-    let s = names::stands_for(names, part(line, from, to), n);
-    match s {
-        Stands::Number { value } => Next::Number { value, to },
-        Stands::Large => Next::Wrong {
+    match names::stands_for(names, part(line, from, to), n) {
+        Ok(value) => Next::Number { value, to },
+        Err(NameError::Large) => Next::Wrong {
             why: Trouble::Large,
         },
-        Stands::Unnamed => Next::Unnamed { from, to },
-        Stands::Unnumbered => Next::Wrong {
+        Err(NameError::Unnamed) => Next::Unnamed { from, to },
+        Err(NameError::Unnumbered) => Next::Wrong {
             why: Trouble::Unnumbered,
         },
     }
