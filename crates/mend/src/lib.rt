@@ -43,11 +43,7 @@ fn no_number(s: &[u8], at: usize) -> Refusal
             number: 3,
             place: at,
         },
-        Err(Trouble::Short) => Refusal {
-            number: 2,
-            place: s.len(),
-        },
-        Ok(_) => Refusal {
+        Err(Trouble::Short) | Ok(_) => Refusal {
             number: 2,
             place: s.len(),
         },
@@ -63,21 +59,21 @@ fn comes_last(number: u32) -> bool
 
 // A refusal of the shortened bytes as one of s, whose numbers end at `last`.
 #[tactic(auto, unfolding(crate::specs::Outcome::reading_of, crate::specs::Padded::original))]
-fn refusal(s: &[u8], last: usize, number: u32, place: usize) -> Refusal
+fn refusal(s: &[u8], last: usize, short: Refusal) -> Refusal
     requires { last ≡ last_place s.now }
-    ensures { Err result ≡ reading_of (original s.now (refused number place)) }
+    ensures { Err result ≡ reading_of (original s.now (refused short.number short.place)) }
 {
-    if number == 2 {
+    if short.number == 2 {
         no_number(s, last)
-    } else if comes_last(number) && last < s.len() {
+    } else if comes_last(short.number) && last < s.len() {
         Refusal {
             number: 9,
             place: last,
         }
     } else {
         Refusal {
-            number,
-            place: padded::place_of(s, place),
+            place: padded::place_of(s, short.place),
+            ..short
         }
     }
 }
@@ -89,14 +85,14 @@ fn read_whole(s: &[u8], short: &[u8]) -> Result<(), Refusal>
     ensures { result ≡ reading_of (original s.now (read_plan (shortened s.now))) }
 {
     let last = padded::place_of(s, short.len());
-    match accepted(short) {
-        Err(Refusal { number, place }) => Err(refusal(s, last, number, place)),
-        Ok(_) if last < s.len() => Err(Refusal {
+    accepted(short).map_err(|r| refusal(s, last, r))?;
+    if last < s.len() {
+        return Err(Refusal {
             number: 9,
             place: last,
-        }),
-        Ok(_) => Ok(()),
+        });
     }
+    Ok(())
 }
 
 // The bytes go to the buffer's start, where it has room.
