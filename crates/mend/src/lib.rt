@@ -33,20 +33,21 @@ fn accepted(bytes: &[u8]) -> plan::Answer
     plan::accept_over(bytes, &mut table, &mut correlation)
 }
 
+// The refusal with this number, at this place.
+fn refused(number: u32, place: usize) -> Refusal
+    ensures { result ≡ plan_answers.refusal number place }
+{
+    Refusal { number, place }
+}
+
 // A number is wanted at `at`, and there is none.
 #[tactic(auto, unfolding(crate::specs::Outcome::reading_of))]
 fn no_number(s: &[u8], at: usize) -> Refusal
     ensures { Err result ≡ reading_of (no_number s.now at (padded_at s.now at)) }
 {
     match padded::padded_at(s, at) {
-        Err(Trouble::Bad) => Refusal {
-            number: 3,
-            place: at,
-        },
-        Err(Trouble::Short) | Ok(_) => Refusal {
-            number: 2,
-            place: s.len(),
-        },
+        Err(Trouble::Bad) => refused(3, at),
+        Err(Trouble::Short) | Ok(_) => refused(2, s.len()),
     }
 }
 
@@ -66,10 +67,7 @@ fn refusal(s: &[u8], last: usize, short: Refusal) -> Refusal
     if short.number == 2 {
         no_number(s, last)
     } else if comes_last(short.number) && last < s.len() {
-        Refusal {
-            number: 9,
-            place: last,
-        }
+        refused(9, last)
     } else {
         Refusal {
             place: padded::place_of(s, short.place),
@@ -87,10 +85,7 @@ fn read_whole(s: &[u8], short: &[u8]) -> Result<(), Refusal>
     let last = padded::place_of(s, short.len());
     accepted(short).map_err(|r| refusal(s, last, r))?;
     if last < s.len() {
-        return Err(Refusal {
-            number: 9,
-            place: last,
-        });
+        return Err(refused(9, last));
     }
     Ok(())
 }
@@ -103,10 +98,7 @@ fn put_plan(bytes: &[u8], cut: usize, out: &mut [u8]) -> Answer
 {
     let length = bytes.len();
     if out.len() < length {
-        return Err(Refusal {
-            number: 18,
-            place: 0,
-        });
+        return Err(refused(18, 0));
     }
     out[..length].copy_from_slice(bytes);
     Ok(Mended { length, cut })
@@ -119,10 +111,7 @@ pub fn mend(s: &[u8], out: &mut [u8]) -> Answer
     ensures bytes { out.new ≡ buffer_of (read_padded s.now) out.old }
 {
     if 4096 < s.len() {
-        return Err(Refusal {
-            number: 1,
-            place: 0,
-        });
+        return Err(refused(1, 0));
     }
     let mut scratch = [0u8; 4096];
     let long = padded::shorten(s, &mut scratch);
