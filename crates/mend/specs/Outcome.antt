@@ -5,7 +5,7 @@ use Rattle.plan.specs.Answers.{refusal}
 use Rattle.plan.specs.Found.{Found, refused, found}
 use Rattle.plan.specs.Spell.{spelling}
 use Rattle.plan.specs.Tree.{Plan}
-use Rattle.plan.specs.declared.Refusal.{Refusal}
+pub use Rattle.plan.specs.declared.Refusal.{Refusal}
 use Rattle.mend.specs.Padded.{groups_cut}
 use Rattle.mend.specs.declared.Mended.{Mended}
 

@@ -3,7 +3,7 @@ use super::plans::fresh;
 use super::writing::forget;
 use super::{Desk, failed, refused};
 use drawing::{Out, put, put_byte, put_error, put_hex, put_number, put_pair};
-use mend::Answer;
+use mend::{Mended, Refusal};
 use text::Hex;
 
 // How many groups were cut, and the mended plan.
@@ -46,13 +46,12 @@ fn mend_into(
     names: &mut [u8; 16896],
     out: &mut Out,
 ) -> Desk {
-    let a = mend::mend(padded, bytes);
-    match a {
-        Answer::Refused { number, place } => {
+    match mend::mend(padded, bytes) {
+        Err(Refusal { number, place }) => {
             let used = put_pair(out, desk.used, b"mend", number as u64, place as u64);
             refused(desk, used, number)
         }
-        Answer::Mended { length, cut } => mended(desk, bytes, length, cut, names, out),
+        Ok(Mended { length, cut }) => mended(desk, bytes, length, cut, names, out),
     }
 }
 
