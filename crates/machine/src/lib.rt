@@ -9,7 +9,7 @@ ghost use Rattle.machine.specs.Calls as calls;
 ghost use Rattle.machine.specs.State.{no_tally};
 
 use order::{End, Order};
-use plan::Answer;
+use plan::Refusal;
 use plan::table::LENGTH;
 
 // A message: places beyond its count hold 0; `reply` is the partner to reply to.
@@ -105,7 +105,7 @@ pub fn load(s: &[u8]) -> Loaded
     let mut flags = [0u8; 16];
     let a = plan::accept_over(s, &mut table, &mut flags);
     match a {
-        Answer::Refused { number, place } => {
+        Err(Refusal { number, place }) => {
             let state = made::fresh_state(&s[..0]);
             Loaded {
                 refusal: number,
@@ -113,11 +113,7 @@ pub fn load(s: &[u8]) -> Loaded
                 state,
             }
         }
-        Answer::Accepted {
-            variables: _,
-            activities: _,
-            nodes: _,
-        } => {
+        Ok(_) => {
             let state = made::fresh_state(s);
             Loaded {
                 refusal: 0,

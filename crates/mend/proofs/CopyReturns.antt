@@ -1,11 +1,11 @@
 -- The loop of `copy`. Assumes nothing.
 use native.Mathlib.Omega.{arith}
 use native.Mathlib.Numerals.{add-one}
-use mathlib.Core.Path.{◌≡◌, refl, sym, ap, ◌∙◌}
-use mathlib.Core.List.{List, [], ◌∷◌}
-use Prim.Native.Nat.{ℕ, suc, ◌+◌, ◌-◌, ◌<◌, ◌≤◌}
+use mathlib.Core.Path.{◌≡◌, refl, sym, ◌∙◌}
+use mathlib.Core.List.{List, ◌∷◌}
+use Prim.Native.Nat.{ℕ, ◌+◌, ◌<◌, ◌≤◌}
 use lib.ListN.{length, get_or, take, drop, set, length-set, drop_of_length-le}
-use lib.Seq.{sets, length-sets, drop-cons, length-take-le, get_or-take}
+use lib.Seq.{sets, drop-cons, length-take-le, get_or-take}
 
 -- i of n bytes are copied
 pub record Copying (s : List ℕ) (n : ℕ) (out₀ out : List ℕ) (i : ℕ) : Type 0 where

@@ -3,10 +3,12 @@ use Prim.Native.Nat.{ℕ}
 use mathlib.Core.Path.{◌≡◌, refl}
 use mathlib.Core.List.{List, [], ◌∷◌, ◌++◌}
 use lib.ListN.{replicate}
-use Rattle.numbers.specs.Shortest.{shortest, spelled}
+use Rattle.std.specs.Prelude.{Result, Err}
 use Rattle.numbers.specs.declared.Number.{Number}
-use Rattle.numbers.specs.declared.Number.TheVariants.{Value, Short, Bad}
-use Rattle.numbers.specs.Number.{last_group, groups, number_at}
+use Rattle.numbers.specs.declared.Trouble.{Trouble}
+use Rattle.numbers.specs.declared.Trouble.TheVariants.{Short, Bad}
+use Rattle.numbers.specs.Shortest.{shortest, spelled}
+use Rattle.numbers.specs.Number.{got, last_group, groups, number_at}
 use Rattle.plan.specs.Agree.{in_bytes, asked_own, span_of, span_all, asked_in, asked_all, asked, agrees_with, judged}
 use Rattle.plan.specs.Found.{number_in, field_in, among}
 use Rattle.plan.specs.Read.{expression_code_in, leaf_in, expression_in, variables_in, tuple_in, exchange_in, arm_in, partner_in, held_send_in, asking_receive_in, with_expression_in, set_in, list_in, raise_in, namable, fault_number_in, code_in, parts_in, head_in, many_in, numbered_in, numbered_scope_in, read_arm, read_act, starts, start_form, first_starts, every_starts, correlation_in, version_in, root_in, read_any, read_plan}
@@ -32,11 +34,11 @@ padded =
     ∷ (129 ∷ 128 ∷ 128 ∷ 128 ∷ 128 ∷ 129 ∷ [])
     ∷ []
 
-abbrev each : List (List ℕ) → List Number
+abbrev each : List (List ℕ) → List (Result Number Trouble)
 each [] = []
 each (s ∷ l) = padded_at s 0 ∷ each l
 
-padded-numbers : each padded ≡ Value 1 1 ∷ Value 1 2 ∷ Value 1 10 ∷ Value 4294967295 10 ∷ Value 0 2 ∷ Bad ∷ Bad ∷ Short ∷ Bad ∷ Bad ∷ []
+padded-numbers : each padded ≡ got 1 1 ∷ got 1 2 ∷ got 1 10 ∷ got 4294967295 10 ∷ got 0 2 ∷ Err Bad ∷ Err Bad ∷ Err Short ∷ Err Bad ∷ Err Bad ∷ []
 unfolding padded_at groups_at
 padded-numbers = refl
 

@@ -2,14 +2,16 @@
 use borrow.Author.Tests.{le-ltb, lt-ltb, ltb-false, eq-eqb, ne_eqb}
 use native.Mathlib.Omega.{arith}
 use mathlib.Core.Path.{◌≡◌, refl, sym, ap, ◌∙◌}
-use mathlib.Core.Bool.{Bool, true, false, cond, ◌||◌}
-use mathlib.Core.List.{List, [], ◌∷◌}
-use Prim.Native.Nat.{ℕ, suc, ◌+◌, ◌-◌, ◌<◌, ◌≤◌}
+use mathlib.Core.Bool.{Bool, true, false, ◌||◌}
+use mathlib.Core.List.{List}
+use Prim.Native.Nat.{ℕ, ◌+◌, ◌-◌, ◌<◌, ◌≤◌}
 use lib.Dec.{ltb, eqb}
-use lib.ListN.{length, get_or, take, drop}
+use lib.ListN.{length, take, drop}
 use lib.Seq.{sets, sets-eq, length-sets, length-take-le, take-append_seam}
+use Rattle.std.specs.Prelude.{Result, Ok, Err}
 use Rattle.numbers.specs.declared.Number.{Number}
-use Rattle.numbers.specs.declared.Number.TheVariants.{Value, Short, Bad}
+use Rattle.numbers.specs.declared.Trouble.{Trouble}
+use Rattle.numbers.specs.declared.Trouble.TheVariants.{Short, Bad}
 use Rattle.plan.specs.Answers as plan_answers
 use Rattle.plan.specs.Found.{Found, refused, found}
 use Rattle.plan.specs.Read.{read_plan}
@@ -19,12 +21,12 @@ use Rattle.plan.specs.declared.Answer as plan
 use Rattle.plan.specs.declared.Answer.TheVariants.{Accepted}
 use Rattle.plan.proofs.Spelled.{accepted-is-spelled}
 use Rattle.mend.specs.Outcome.{reading_of, put_answer, put_buffer, answer_of, buffer_of}
-use Rattle.mend.specs.Padded.{padded_at, shortened, groups_cut, place_of, last_place, no_number, ended, original, read_padded}
+use Rattle.mend.specs.Padded.{padded_at, shortened, groups_cut, place_of, last_place, no_number, original, read_padded}
 use Rattle.mend.specs.declared.Answer.{Answer}
 use Rattle.mend.specs.declared.Answer.TheVariants.{Mended}
 use Rattle.mend.specs.declared.Reading.{Reading}
 use Rattle.mend.specs.declared.Reading.TheVariants.{Whole}
-use Rattle.mend.proofs.PaddedLaws.{cond-elim}
+use Rattle.numbers.proofs.Groups.{cond-elim}
 use Rattle.mend.proofs.RunLaws.{last-place, last-inside, shortened-fits, shortened-bytes}
 
 -- `accepted`
@@ -32,18 +34,18 @@ pub prefix-long : (l : List ℕ) (n : ℕ) → n ≤ length l → n ≡ length (
 prefix-long l n h = sym (length-take-le n l h)
 
 -- `no_number`
-module _ (s : List ℕ) (at : ℕ) {n : Number} (e : n ≡ padded_at s at) where
-  pub wanted-bad : n ≡ Bad → Reading.Refused 3 at ≡ reading_of (no_number s at (padded_at s at))
+module _ (s : List ℕ) (at : ℕ) where
+  pub wanted-bad : Err Bad ≡ padded_at s at → Reading.Refused 3 at ≡ reading_of (no_number s at (padded_at s at))
   unfolding reading_of
-  wanted-bad o = rw (sym e ∙ o)
+  wanted-bad e = rw (← e)
 
-  pub wanted-short : n ≡ Short → Reading.Refused 2 (length s) ≡ reading_of (no_number s at (padded_at s at))
+  pub wanted-short : Err Short ≡ padded_at s at → Reading.Refused 2 (length s) ≡ reading_of (no_number s at (padded_at s at))
   unfolding reading_of
-  wanted-short o = rw (sym e ∙ o)
+  wanted-short e = rw (← e)
 
-  pub wanted-value : {v next : ℕ} → n ≡ Value v next → Reading.Refused 2 (length s) ≡ reading_of (no_number s at (padded_at s at))
+  pub wanted-none : {r : Number} → Ok r ≡ padded_at s at → Reading.Refused 2 (length s) ≡ reading_of (no_number s at (padded_at s at))
   unfolding reading_of
-  wanted-value o = rw (sym e ∙ o)
+  wanted-none e = rw (← e)
 
 -- `refusal`
 module _ (s : List ℕ) (last number place : ℕ) (l : last ≡ last_place s) where
@@ -175,10 +177,10 @@ pub record WholePlan (s : List ℕ) (p : Plan) : Type 0 where
 pub no-plan : {P : Type 0} {number place next : ℕ} {p : Plan} → ◌≡◌ {A = Found Plan} (refused number place) (found p next) → P
 no-plan e = let z : ◌≡◌ {A = ℕ} 0 1 = cc in absurd (omega arith)
 
-no-number-none : {P : Type 0} (s : List ℕ) (at : ℕ) (n : Number) {p : Plan} {next : ℕ} → no_number s at n ≡ found p next → P
-no-number-none s at Bad e = no-plan e
-no-number-none s at Short e = no-plan e
-no-number-none s at (Value v q) e = no-plan e
+no-number-none : {P : Type 0} (s : List ℕ) (at : ℕ) (n : Result Number Trouble) {p : Plan} {next : ℕ} → no_number s at n ≡ found p next → P
+no-number-none s at (Err Bad) e = no-plan e
+no-number-none s at (Err Short) e = no-plan e
+no-number-none s at (Ok r) e = no-plan e
 
 plan-of : {p q : Plan} {m n : ℕ} → found p m ≡ found q n → p ≡ q
 plan-of e = cc

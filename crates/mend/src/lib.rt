@@ -11,7 +11,7 @@ ghost use Rattle.plan.specs.Answers as plan_answers;
 ghost use Rattle.plan.specs.Found.{refused};
 ghost use Rattle.plan.specs.Read.{read_plan};
 
-use numbers::Number;
+use numbers::Trouble;
 use plan::table::LENGTH;
 
 // Whether bytes are a padded plan.
@@ -42,17 +42,16 @@ fn accepted(bytes: &[u8], n: usize) -> plan::Answer
 fn no_number(s: &[u8], at: usize) -> Reading
     ensures { result ≡ reading_of (no_number s.now at (padded_at s.now at)) }
 {
-    let n = padded::padded_at(s, at);
-    match n {
-        Number::Bad => Reading::Refused {
+    match padded::padded_at(s, at) {
+        Err(Trouble::Bad) => Reading::Refused {
             number: 3,
             place: at,
         },
-        Number::Short => Reading::Refused {
+        Err(Trouble::Short) => Reading::Refused {
             number: 2,
             place: s.len(),
         },
-        Number::Value { value: _, next: _ } => Reading::Refused {
+        Ok(_) => Reading::Refused {
             number: 2,
             place: s.len(),
         },
@@ -103,12 +102,8 @@ fn read_whole(s: &[u8], bytes: &[u8], n: usize) -> Reading
     let last = padded::place_of(s, n);
     let a = accepted(bytes, n);
     match a {
-        plan::Answer::Refused { number, place } => refusal(s, last, number, place),
-        plan::Answer::Accepted {
-            variables: _,
-            activities: _,
-            nodes: _,
-        } => {
+        Err(plan::Refusal { number, place }) => refusal(s, last, number, place),
+        Ok(_) => {
             if last < s.len() {
                 return Reading::Refused {
                     number: 9,

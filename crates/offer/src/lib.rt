@@ -10,7 +10,7 @@ ghost use Rattle.machine.specs.Calls.{preview};
 ghost use Rattle.offer.specs.Having.{Has, OffersBy, offered_in};
 
 use machine::{State, Step, limits};
-use plan::Answer;
+use plan::Accepted;
 use plan::table::{LENGTH, Table};
 use sight::counting;
 
@@ -56,15 +56,8 @@ pub fn offer(state: State, choice: usize) -> Step
     let mut flags = [0u8; 16];
     let a = limits::planned(state, &mut table, &mut flags);
     match a {
-        Answer::Refused {
-            number: _,
-            place: _,
-        } => counting::refused(17),
-        Answer::Accepted {
-            variables: _,
-            activities,
-            nodes: _,
-        } => offer_by(&table, &flags, activities, state, choice),
+        Err(_) => counting::refused(17),
+        Ok(Accepted { activities, .. }) => offer_by(&table, &flags, activities, state, choice),
     }
 }
 
@@ -89,18 +82,11 @@ pub fn offers(state: State) -> Offered
     let mut flags = [0u8; 16];
     let a = limits::planned(state, &mut table, &mut flags);
     match a {
-        Answer::Refused {
-            number: _,
-            place: _,
-        } => Offered {
+        Err(_) => Offered {
             refusal: 17,
             many: 0,
             held: false,
         },
-        Answer::Accepted {
-            variables: _,
-            activities,
-            nodes: _,
-        } => count_by(&table, &flags, activities, state),
+        Ok(Accepted { activities, .. }) => count_by(&table, &flags, activities, state),
     }
 }

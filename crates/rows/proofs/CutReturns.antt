@@ -1,50 +1,20 @@
 -- The returns of the functions that cut a plan's bytes into rows. Assumes nothing.
-use borrow.Author.Tests.{eq-eqb, ne_eqb, lt-ltb, le-ltb}
+use borrow.Author.Tests.{ne_eqb, lt-ltb, le-ltb}
 use native.Mathlib.Omega.{arith}
 use native.Mathlib.Nat.{add-zero}
-use native.Mathlib.Numerals.{add-one}
 use mathlib.Core.Path.{◌≡◌, refl, sym, ap, ◌∙◌}
 use mathlib.Core.Bool.{cond}
-use mathlib.Core.List.{List, [], ◌∷◌, ◌++◌}
-use lib.Dec.{eqb, ltb}
+use mathlib.Core.List.{List}
+use lib.Dec.{eqb}
 use Prim.Native.Nat.{ℕ, zero, suc, ◌+◌, ◌*◌, ◌-◌, ◌≤◌, ◌<◌}
-use lib.ListN.{length, get_or, set, replicate, length-set, length-append, length-replicate}
+use lib.ListN.{length, get_or, set, replicate, length-set}
 use lib.Seq.{sets, length-sets}
 use mir.Syntax.{w64}
 use mir.Val.{Fits}
-use Rattle.numbers.specs.Number.{number_at}
-use Rattle.numbers.specs.declared.Number.{Number}
-use Rattle.numbers.specs.declared.Number.TheVariants.{Value, Short, Bad}
 use Rattle.writer.specs.Rows.{used, line, lines}
-use Rattle.rows.specs.Cut.{value_of, next_of, value_in, next_in, numbers_in, place_after, kind_in, count_in, place_in, kind_at, between_in, width_of, opens, row_width, due_after, k_after, cut_rows, head_width, cut_plan}
+use Rattle.rows.specs.Cut.{value_in, next_in, numbers_in, place_after, kind_in, count_in, place_in, kind_at, between_in, width_of, opens, row_width, due_after, k_after, cut_rows, head_width, cut_plan}
 use Rattle.writer.proofs.ByteReturns.{sets-append}
 use Rattle.writer.proofs.Lines.{line-long}
-
--- `taken_at`
-module _ (s : List ℕ) (at : ℕ) {n : Number} (e : n ≡ number_at s at) where
-  pub taken-value : {v next : ℕ} → n ≡ Value v next → v ≡ value_in s at
-  unfolding value_of
-  taken-value o = rw (← e, o)
-
-  pub taken_next : {v next : ℕ} → n ≡ Value v next → next ≡ next_in s at
-  unfolding next_of
-  taken_next o = rw (← e, o)
-
-  pub short-value : n ≡ Short → 0 ≡ value_in s at
-  unfolding value_of
-  short-value o = rw (← e, o)
-
-  pub short-next : n ≡ Short → at ≡ next_in s at
-  unfolding next_of
-  short-next o = rw (← e, o)
-
-  pub bad-value : n ≡ Bad → 0 ≡ value_in s at
-  unfolding value_of
-  bad-value o = rw (← e, o)
-
-  pub bad-next : n ≡ Bad → at ≡ next_in s at
-  unfolding next_of
-  bad-next o = rw (← e, o)
 
 -- `put_numbers`
 pub numbers-long : (left : ℕ) (s : List ℕ) (at : ℕ) → length (numbers_in left s at) ≡ left

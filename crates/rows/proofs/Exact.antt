@@ -1,6 +1,6 @@
 -- Request 1's promises: what is written is accepted and reads back as the same table, and every accepted plan comes back byte for byte; of the
 -- definitions, and of the two public calls one after the other. Assumes nothing.
-use mathlib.Core.Path.{◌≡◌, refl, sym, ap, ◌∙◌}
+use mathlib.Core.Path.{◌≡◌, refl, sym}
 use mathlib.Core.List.{List}
 use Prim.Native.Nat.{ℕ, ◌+◌, ◌≤◌}
 use lib.ListN.{length, take, drop}

@@ -2,25 +2,24 @@
 use borrow.Author.Tests.{lt-ltb, le-ltb}
 use native.Mathlib.Omega.{arith}
 use mathlib.Core.Path.{◌≡◌, refl, sym, ap, ◌∙◌}
-use mathlib.Core.List.{List, [], ◌∷◌, ◌++◌}
-use Prim.Native.Nat.{ℕ, suc, ◌+◌, ◌*◌, ◌/◌, ◌≤◌, ◌<◌}
-use lib.ListN.{length, length-append}
-use lib.Seq.{sets, length-sets}
+use mathlib.Core.List.{List}
+use Prim.Native.Nat.{ℕ, ◌+◌, ◌*◌, ◌/◌, ◌≤◌, ◌<◌}
+use lib.ListN.{length}
+use lib.Seq.{sets}
 use mir.Syntax.{w64}
 use mir.Val.{Fits}
-use Rattle.numbers.specs.Shortest.{Bytes, shortest}
+use Rattle.numbers.specs.Shortest.{Bytes}
 use Rattle.plan.specs.declared.Answer as plan
 use Rattle.plan.specs.declared.Answer.TheVariants.{Accepted}
 use Rattle.plan.specs.Answers.{answer_of, table_into, table_for}
 use Rattle.plan.specs.Found.{Found, refused, found}
 use Rattle.plan.specs.Read.{read_plan}
-use Rattle.plan.specs.Spell.{spell, act_numbers, plan_numbers, spelling}
+use Rattle.plan.specs.Spell.{spell, act_numbers, spelling}
 use Rattle.plan.specs.Table.{nodes, table_of}
 use Rattle.plan.specs.Tree.{Plan, size}
 use Rattle.plan.proofs.Bounds.{act-nodes-spelled}
 use Rattle.plan.proofs.Limits.{accepted-is-within}
 use Rattle.plan.proofs.Spelled.{accepted-is-spelled}
-use Rattle.plan.proofs.Stands.{spell-append}
 use Rattle.plan.proofs.TableSpells.{accepted-spells, plan-length}
 use Rattle.writer.specs.declared.Answer.{Answer}
 use Rattle.writer.specs.declared.Answer.TheVariants.{Wrote}

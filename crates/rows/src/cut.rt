@@ -9,24 +9,13 @@ use plan::code;
 use plan::table::{COUNT, PLACE, Table, WIDTH};
 use writer::cells::{at_most_19, wide};
 
-// A number and the place after it.
-#[derive(Clone, Copy)]
-pub struct Taken {
-    pub value: u32,
-    pub next: usize,
-}
-
 // The number at `at`.
-fn taken_at(s: &[u8], at: usize) -> Taken
+#[tactic(auto, unfolding(crate::specs::Cut::value_of, crate::specs::Cut::next_of))]
+fn taken_at(s: &[u8], at: usize) -> Number
     ensures value { result.value ≡ value_in s.now at }
     ensures next { result.next ≡ next_in s.now at }
 {
-    let n = numbers::read(s, at);
-    match n {
-        Number::Value { value, next } => Taken { value, next },
-        Number::Short => Taken { value: 0, next: at },
-        Number::Bad => Taken { value: 0, next: at },
-    }
+    numbers::read(s, at).unwrap_or(Number { value: 0, next: at })
 }
 
 // `left` numbers from `at` on are put into the buffer from `base` on; the place after them.

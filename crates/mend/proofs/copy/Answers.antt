@@ -1,5 +1,4 @@
 -- `mend::copy` meets its contract. Assumes nothing.
-use Prim.Native.Nat.{◌-◌}
 use Rattle.mend.proofs.CopyReturns.{copying-starts, copying-again, copying-done}
 use Rattle.mend.proofs.copy.Goals as goal
 

@@ -1,14 +1,12 @@
 -- `mend::no_number` meets its contract. Assumes nothing.
-use Rattle.mend.proofs.MendReturns.{wanted-bad, wanted-short, wanted-value}
+use Rattle.mend.proofs.MendReturns.{wanted-bad, wanted-short, wanted-none}
 use Rattle.mend.proofs.no_number.Goals as goal
 
-ruleset cases = (wanted-bad, wanted-short, wanted-value)
+pub returns-in-Err-Bad : goal.returns-in-Err-Bad
+returns-in-Err-Bad c = wanted-bad _ _ (rw c.in-Err-Bad.field-0-is at c.in-Err-Bad.ensures)
 
-pub returns-in-Bad : goal.returns-in-Bad
-returns-in-Bad c = search cases
+pub returns-in-Err-Short : goal.returns-in-Err-Short
+returns-in-Err-Short c = wanted-short _ _ (rw c.in-Err-Short.field-0-is at c.in-Err-Short.ensures)
 
-pub returns-in-Short : goal.returns-in-Short
-returns-in-Short c = search cases
-
-pub returns-in-Value : goal.returns-in-Value
-returns-in-Value c = search cases
+pub returns-in-Ok : goal.returns-in-Ok
+returns-in-Ok c = wanted-none _ _ c.in-Ok.ensures

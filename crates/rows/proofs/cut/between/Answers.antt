@@ -1,5 +1,4 @@
 -- `rows::cut::between` meets its contract. Assumes nothing.
-use Prim.Native.Nat.{◌-◌}
 use Rattle.rows.proofs.CutReturns.{summing-starts, summing-done, summing-again, summing-fits}
 use Rattle.rows.proofs.cut.between.Goals as goal
 

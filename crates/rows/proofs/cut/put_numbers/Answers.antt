@@ -1,6 +1,5 @@
 -- `rows::cut::put_numbers` meets its contract. Assumes nothing.
 use Rattle.rows.proofs.CutReturns.{putting-starts, putting-next, putting-done, putting-long, putting-inside, putting-again}
-use Prim.Native.Nat.{◌-◌}
 use Rattle.rows.proofs.cut.put_numbers.Goals as goal
 
 ruleset cases = (putting-starts, putting-next, putting-done, putting-long, putting-inside, putting-again)

@@ -1,7 +1,6 @@
 -- `rows::cut::put_parts` meets its contract. Assumes nothing.
 use borrow.Author.Rules.{rules}
 use Rattle.rows.proofs.CutReturns.{cutting-starts, cutting-done, cutting-long, cutting-room, cutting-k, cutting-due, cutting-again}
-use Prim.Native.Nat.{◌-◌}
 use Rattle.rows.proofs.cut.put_parts.Goals as goal
 
 ruleset cases = (cutting-starts, cutting-done, cutting-long, cutting-room, cutting-k, cutting-due, cutting-again)

@@ -1,6 +1,5 @@
 -- `rows::cut::put_zeros` meets its contract. Assumes nothing.
 use Rattle.rows.proofs.CutReturns.{clearing-starts, clearing-done, clearing-long, clearing-inside, clearing-again}
-use Prim.Native.Nat.{◌-◌}
 use Rattle.rows.proofs.cut.put_zeros.Goals as goal
 
 ruleset cases = (clearing-starts, clearing-done, clearing-long, clearing-inside, clearing-again)
