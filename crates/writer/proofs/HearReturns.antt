@@ -24,7 +24,7 @@ use Rattle.plan.proofs.RowsAsked.{fit_all}
 use Rattle.plan.proofs.Stands.{HeadIs, plain, numbered, many-count}
 use Rattle.std.specs.Prelude.{Result, Ok, Err}
 use Rattle.std.specs.Result.{IsErr}
-use Rattle.writer.specs.declared.Refusal.{Refusal}
+use Rattle.plan.specs.declared.Refusal.{Refusal}
 use Rattle.writer.specs.declared.Field.{Field}
 use Rattle.writer.specs.declared.Out.{Out}
 use Rattle.writer.specs.declared.Own as code

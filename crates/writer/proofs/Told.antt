@@ -6,7 +6,7 @@ use Rattle.std.specs.Result.{IsErrAnd}
 use Rattle.std.proofs.lemmas.Bool.Decides.{nat_tests}
 use Rattle.std.proofs.lemmas.Result.{err_from_is_err_and}
 use Rattle.plan.specs.Found.{Found, refused, found, and_then}
-use Rattle.writer.specs.declared.Refusal.{Refusal}
+use Rattle.plan.specs.declared.Refusal.{Refusal}
 use Rattle.writer.specs.declared.Field.{Field}
 use Rattle.writer.proofs.CellReturns.{among_any}
 use Rattle.writer.specs.Written.{result_for, field_of}

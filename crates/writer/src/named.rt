@@ -6,9 +6,10 @@ ghost use Rattle.plan.specs.Read.{namable};
 ghost use Rattle.writer.specs.Reading.{count_at, fault_number_at};
 ghost use Rattle.writer.specs.Written.{field_for};
 
+use super::Field;
 use super::cells::{is_shaped, row_at};
 use super::owns::from_1;
-use super::{Field, Refusal};
+use plan::Refusal;
 
 // Whether a fault part may have this number.
 #[tactic(auto, using(crate::proofs::Told::cases), unfolding(plan::specs::Read::namable))]
