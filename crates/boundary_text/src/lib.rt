@@ -2,6 +2,7 @@
 // boundary_text_c has its exports for C.
 #![tactic(auto)]
 
+use plan::Refusal;
 use plan::table::{LENGTH, Table};
 use sheet::Sheet;
 use writer::Answer;
@@ -27,10 +28,7 @@ fn answer_of(rows: &[u32], length: usize, plan: &mut [u8]) -> Answer {
     if length <= rows.len() {
         return writer::write(&rows[0..length], plan);
     }
-    Answer::Refused {
-        number: 2,
-        place: 0,
-    }
+    Err(Refusal { number: 2, place: 0 })
 }
 
 fn written(rows: &[u32; 87100], length: usize, lines: &[u32; 4355], plan: &mut [u8]) -> u64 {
@@ -40,11 +38,8 @@ fn written(rows: &[u32; 87100], length: usize, lines: &[u32; 4355], plan: &mut [
 
 fn number_of(a: Answer, lines: &[u32; 4355]) -> u64 {
     match a {
-        Answer::Wrote { length } => (length as u64) % 4294967296,
-        Answer::Refused { number, place } => {
-            let line = line_of(lines, place);
-            pair_of(wide(number), line)
-        }
+        Ok(length) => (length as u64) % 4294967296,
+        Err(why) => pair_of(wide(why.number), line_of(lines, why.place)),
     }
 }
 

@@ -9,6 +9,7 @@ use super::rules::put_rule;
 use super::{Desk, failed, refused, shown};
 use drawing::{Out, put, put_byte, put_hex, put_next, put_pair, unended};
 use machine::State;
+use plan::Refusal;
 use sheet::Sheet;
 use writer::Answer;
 
@@ -187,10 +188,7 @@ fn answer_of(rows: &[u32], length: usize, plan: &mut [u8; 4096]) -> Answer {
     if length <= rows.len() {
         return writer::write(&rows[0..length], plan);
     }
-    Answer::Refused {
-        number: 2,
-        place: 0,
-    }
+    Err(Refusal { number: 2, place: 0 })
 }
 
 // A text that is refused, and, for a person, by which rule where that is not told by the number.
@@ -229,16 +227,18 @@ fn write_rows(
     let mut plan = [0u8; 4096];
     let a = answer_of(rows, length, &mut plan);
     match a {
-        Answer::Wrote { length } => {
+        Ok(length) => {
             if desk.spoken {
                 return written_with_care(desk, text, &plan, length, number, bytes, names, out);
             }
             written(desk, text, &plan, length, bytes, names, out)
         }
-        Answer::Refused {
-            number: refusal,
-            place,
-        } => {
+        Err(
+            Refusal {
+                number: refusal,
+                place,
+            },
+        ) => {
             if refusal == 21 {
                 let used = put_disagreeing(text, number, rows, lines, place, out, desk.used);
                 return refused(desk, used, refusal);
