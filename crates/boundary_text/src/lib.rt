@@ -20,17 +20,17 @@ fn answer_of(rows: &[u32], length: usize, plan: &mut [u8]) -> Answer {
     if length <= rows.len() {
         writer::write(&rows[..length], plan)
     } else {
-        Answer::Refused {
+        Err(plan::Refusal {
             number: 2,
             place: 0,
-        }
+        })
     }
 }
 
 fn written(rows: &[u32; 87100], length: usize, lines: &[u32; 4355], plan: &mut [u8]) -> u64 {
     match answer_of(rows, length, plan) {
-        Answer::Wrote { length } => (length as u64) % 4294967296,
-        Answer::Refused { number, place } => pair_of(u64::from(number), line_of(lines, place)),
+        Ok(length) => (length as u64) % 4294967296,
+        Err(plan::Refusal { number, place }) => pair_of(u64::from(number), line_of(lines, place)),
     }
 }
 

@@ -125,3 +125,5 @@ module _ {s : List ℕ} {at i p scale sum : ℕ} (r : Reads s at i p scale sum) 
           fits = rw f (scale_small scale r.fits);
           small = fit;
         }
+
+pub ruleset reading = (reads-starts, reads-group, reads-again)

@@ -141,6 +141,8 @@ module _ {s out₀ out : List ℕ} {at q : ℕ} (w : Shortening s out₀ out at 
           long = rw gm (length-sets out q x ∙ w.long);
         }
 
+pub ruleset shortening = (shortening-starts, shortening-again)
+
 -- `place_of`
 pub record Placing (s : List ℕ) (q at p : ℕ) : Type 0 where
   pub left : ℕ
@@ -173,3 +175,5 @@ module _ {s : List ℕ} {q at p : ℕ} (w : Placing s q at p) where
           same = w.same ∙ ap (λ k. place_from k s at p q) l.is ∙ place-further l.rest s at p q h (sym e) ∙ rw g;
           behind = omega (arith, b.long, w.behind, g);
         }
+
+pub ruleset placing = (placing-starts, placing-again)

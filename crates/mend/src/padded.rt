@@ -7,16 +7,19 @@ ghost use Rattle.mend.specs.Padded.{padded_at, place_of, shortened};
 use numbers::{Number, Trouble};
 
 // What the next group counts. Beyond five groups only zeros fit, so that it need not grow there.
+#[tactic(auto, unfolding(crate::specs::Fits::scale_after))]
 fn next_scale(scale: u64) -> u64
     ensures { result ≡ scale_after scale }
 {
     if scale < 34359738368 {
-        return scale * 128;
+        scale * 128
+    } else {
+        scale
     }
-    scale
 }
 
 // The padded number that starts at `at`.
+#[tactic(auto, using(crate::proofs::PaddedReads::reading))]
 pub(crate) fn padded_at(s: &[u8], at: usize) -> Result<Number, Trouble>
     ensures { result ≡ padded_at s.now at }
 {
@@ -45,6 +48,7 @@ pub(crate) fn padded_at(s: &[u8], at: usize) -> Result<Number, Trouble>
 }
 
 // The numbers of s in shortest form from the buffer's start on; how many bytes they have.
+#[tactic(auto, using(crate::proofs::RunReturns::shortening))]
 pub(crate) fn shorten(s: &[u8], out: &mut [u8]) -> usize
     requires { length s.now ≤ length out.old }
     ensures long { result ≡ length (shortened s.now) }
@@ -60,6 +64,7 @@ pub(crate) fn shorten(s: &[u8], out: &mut [u8]) -> usize
 }
 
 // The place in s of place q of its shortened bytes.
+#[tactic(auto, using(crate::proofs::RunReturns::placing))]
 pub(crate) fn place_of(s: &[u8], q: usize) -> usize
     ensures { result ≡ place_of s.now q }
 {

@@ -3,7 +3,7 @@ use super::plans::fresh;
 use super::writing::forget;
 use super::{Desk, first};
 use drawing::Out;
-use mend::Answer;
+use mend::{Mended, Refusal};
 use text::HexError;
 
 // How many groups were cut, and the mended plan.
@@ -25,11 +25,11 @@ fn mended(desk: &mut Desk, length: usize, cut: usize) {
 // The mended plan is the last plan from then on; where it is refused nothing changes, since a refused mend changes no byte.
 fn mend_into(desk: &mut Desk, padded: &[u8]) {
     match mend::mend(padded, &mut desk.bytes) {
-        Answer::Refused { number, place } => {
+        Err(Refusal { number, place }) => {
             desk.out.put_pair(b"mend", u64::from(number), place as u64);
             desk.answer(number);
         }
-        Answer::Mended { length, cut } => mended(desk, length, cut),
+        Ok(Mended { length, cut }) => mended(desk, length, cut),
     }
 }
 

@@ -9,6 +9,7 @@ use super::rules::put_rule;
 use super::{Desk, Said, first};
 use drawing::Out;
 use machine::State;
+use plan::Refusal;
 use sheet::Sheet;
 use writer::Answer;
 
@@ -104,10 +105,10 @@ fn answer_of(rows: &[u32], length: usize, plan: &mut [u8; 4096]) -> Answer {
     if length <= rows.len() {
         return writer::write(&rows[0..length], plan);
     }
-    Answer::Refused {
+    Err(Refusal {
         number: 2,
         place: 0,
-    }
+    })
 }
 
 // A text that is refused, and, for a person, by which rule where that is not told by the number.
@@ -131,17 +132,19 @@ fn write_rows(
     let mut plan = [0u8; 4096];
     let a = answer_of(rows, length, &mut plan);
     match a {
-        Answer::Wrote { length } => {
+        Ok(length) => {
             if desk.spoken {
                 written_with_care(desk, text, &plan, length, number);
             } else {
                 written(desk, text, &plan, length);
             }
         }
-        Answer::Refused {
-            number: refusal,
-            place,
-        } => {
+        Err(
+            Refusal {
+                number: refusal,
+                place,
+            },
+        ) => {
             desk.answer(refusal);
             if refusal == 21 {
                 put_disagreeing(text, number, rows, lines, place, &mut desk.out);
