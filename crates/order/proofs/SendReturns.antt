@@ -1,18 +1,18 @@
 -- The returns of the functions that say whether a send would send. Assumes nothing.
-use mathlib.Core.Path.{◌≡◌, refl, sym, ap, ◌∙◌}
-use mathlib.Core.Bool.{Bool, true, false, cond, ◌&&◌}
-use mathlib.Core.List.{List, [], ◌∷◌, ◌++◌}
-use Prim.Native.Nat.{ℕ, zero, suc, ◌+◌, ◌*◌, ◌<◌, ◌≤◌}
+use mathlib.Core.Path.{◌≡◌, refl, sym, ◌∙◌}
+use mathlib.Core.Bool.{Bool, true, false, ◌&&◌}
+use mathlib.Core.List.{List}
+use Prim.Native.Nat.{ℕ, ◌+◌, ◌*◌, ◌<◌, ◌≤◌}
 use native.Mathlib.Numerals.{add-one}
 use native.Mathlib.Omega.{arith}
-use borrow.Author.Tests.{eq-eqb, ne_eqb, le-leb, lt-leb}
+use borrow.Author.Tests.{ne_eqb}
 use lib.Dec.{eqb, leb}
 use lib.ListN.{length, get_or, drop, drop_of_length-le, get_or-eq_default}
 use lib.Seq.{drop-cons}
 use Rattle.order.specs.declared.Order.{Order}
-use Rattle.order.specs.Answering.{CountOf, VariableOf, Tuple, Bindings, Values, BoundAt, ValueAt, TupleBound, AllBound, PartnerTo, Reaches, MaySend}
+use Rattle.order.specs.Answering.{CountOf, VariableOf, Tuple, Bindings, BoundAt, ValueAt, TupleBound, AllBound, PartnerTo, Reaches, MaySend}
 use Rattle.order.specs.Lists.{every}
-use Rattle.order.specs.State.{is_bound, value_of}
+use Rattle.order.specs.State.{is_bound}
 
 -- `bound_at`, `value_at`
 beyond : {l m : List ℕ} (v : ℕ) → m ≡ l → length l ≡ 16 → 16 ≤ v → get_or m v 0 ≡ 0

@@ -45,13 +45,6 @@ pub enum End {
     Left,
 }
 
-// What an expression comes to: a fault with its number, or a value.
-#[derive(Clone, Copy)]
-pub enum Worth {
-    Fault { number: u8 },
-    Value { value: u32 },
-}
-
 // How what runs stands after a step in it: it runs on; it is over; a fault came out of it; the order leaves; and of what stands around an undo
 // part that is running, the undo part is over, or a fault came out of it. A fault has its number.
 #[derive(Clone, Copy)]
@@ -96,11 +89,4 @@ pub struct Next {
     pub end: End,
     pub fault: u8,
     pub order: Order,
-}
-
-// The place of what is looked for, or none.
-#[derive(Clone, Copy)]
-pub enum Found {
-    At(usize),
-    Nothing,
 }
