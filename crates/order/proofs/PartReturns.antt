@@ -11,13 +11,11 @@ use lib.ListN.{length, get_or, drop, drop_of_length-le}
 use lib.Seq.{drop-cons}
 use Rattle.plan.specs.Tree.{general_part, Acts, none, more, size, count}
 use Rattle.plan.proofs.Accepts.{both}
-use Rattle.order.specs.declared.Order.{Order}
 use Rattle.order.specs.declared.Spot.{Spot}
-use Rattle.order.specs.Answering.{Made, name_of, scope_of, Held, NumberAt, Chooses, Faulting, PartRow, chosen_index, ChosenRow, UndoRow, scope_act, SpotAt}
+use Rattle.order.specs.Answering.{Made, scope_of, Held, NumberAt, Chooses, PartRow, chosen_index, ChosenRow, UndoRow, scope_act, SpotAt}
 use Rattle.order.specs.Begin.{part, part_at}
 use Rattle.order.specs.Scope.{Scope, general_for, part_for, chosen_part, chosen_at}
 use Rattle.order.specs.Stands.{End, Stands, StandAll}
-use Rattle.order.specs.State.{mark_with, marking, causing}
 use Rattle.order.proofs.Standing.{stands-end, first-at, part-stands, part-next, general-is}
 
 -- the loop of `choice_for`: none of the numbers before is the one
@@ -55,11 +53,6 @@ module _ {t : List ℕ} {z : Spot} {number i n : ℕ} (w : Choosing t z number i
           let d : number ≡ get_or x.numbers i 0 → ⊥ = λ q. e (number-here x h ∙ (sym q ∙ sym b)) in
           w.is x h ∙ (here x h ∙ rw (ne_eqb _ _ d));
     }
-
--- `faulting`
-pub faulting-is : {t : List ℕ} {z : Spot} {number c : ℕ} → Chooses t z number c → {m : ℕ} → m ≡ mark_with c 4 → (o : Order) {o₁ : Order}
-    → o₁ ≡ marking (name_of z) m o → {r : Order} → r ≡ causing (name_of z) number o₁ → Faulting t z number o r
-faulting-is w e o g h = record { is = λ x k. rw (h, g, e, w.is x k) }
 
 -- the loop of `part_row`: what is left to go leads there
 pub record Passing (t : List ℕ) (c i j k : ℕ) : Type 0 where
