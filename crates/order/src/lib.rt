@@ -12,6 +12,9 @@ pub mod parts;
 pub mod rows;
 pub mod sending;
 
+ghost use Rattle.std.specs.Prelude.{◌≡◌};
+ghost use Rattle.order.specs.Answering.{is_over};
+
 // An order. Where `root` is 0 the slot is free; else `root` is the mark of the root, which counts as a scope and has no number.
 // `marks` has the mark of each activity by its number. `bound` is 1 where the variable of that number is bound and 0 where it is not.
 // The first `kept` places of `remembered` are the closings, oldest first, and the places beyond hold 0. `cause` is the number of the fault that the root
@@ -55,6 +58,16 @@ pub enum Way {
     Leaving,
     Undone,
     UndoRaising { number: u8 },
+}
+
+impl Way {
+    // Whether something is over.
+    #[tactic(auto, unfolding(crate::specs::Answering::is_over))]
+    pub fn is_over(self) -> bool
+        ensures { result ≡ is_over self }
+    {
+        matches!(self, Way::Over)
+    }
 }
 
 // An order after a step in part of it, and how that part stands.
