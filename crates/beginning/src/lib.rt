@@ -47,17 +47,14 @@ pub fn begin(table: &Table, k: usize, marks: [u8; 256]) -> Entered
     if 256 <= k {
         return Entered { marks, over: true };
     }
-    let kind = kind_of(table, k);
-    if matches!(kind, kind::EMPTY | kind::ARM) {
-        return Entered { marks, over: true };
-    }
     let mut m = marks;
     m[k] = mark::ACTIVE;
     let e = end_of(table, k);
-    match kind {
+    match kind_of(table, k) {
+        kind::EMPTY | kind::ARM => Entered { marks, over: true },
         kind::SEQUENCE => throughout(k, begin_in_turn(table, k + 1, e, m)),
         kind::FLOW => throughout(k, begin_all(table, k + 1, e, m)),
-        _ if is_scope(kind) && k + 1 < e => around(k, begin(table, k + 1, m)),
+        kind if is_scope(kind) && k + 1 < e => around(k, begin(table, k + 1, m)),
         _ => Entered {
             marks: m,
             over: false,
@@ -113,6 +110,7 @@ fn begin_all(table: &Table, c: usize, e: usize, marks: [u8; 256]) -> Entered
 }
 
 // No order.
+#[tactic(auto, unfolding(order::specs::State::no_order))]
 pub fn no_order() -> Order
     ensures { result ≡ no_order }
 {
@@ -132,10 +130,10 @@ pub fn started_order(table: &Table) -> Order
     ensures { StartsOrder table.now result }
 {
     let o = no_order();
-    let r = begin(table, 0, o.marks);
+    let marks = begin(table, 0, o.marks).marks;
     Order {
         root: mark::ACTIVE,
-        marks: r.marks,
+        marks,
         ..o
     }
 }
