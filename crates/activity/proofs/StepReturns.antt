@@ -19,7 +19,8 @@ use Rattle.order.specs.declared.Entered.{Entered}
 use Rattle.order.specs.declared.Order.{Order}
 use Rattle.order.specs.declared.Way.TheVariants.{Over, Raising, Leaving}
 use Rattle.order.specs.declared.Went.{Went}
-use Rattle.order.specs.declared.Worth.{Worth}
+use Rattle.std.specs.Prelude.{Result, Ok, Err}
+use Rattle.order.specs.declared.fault.Fault.{Fault}
 use Rattle.order.specs.Acting.{finishes, enters, again, repeats, all_bound, reaches, itself}
 use Rattle.order.specs.Answering.{went, is_over, worth_of, Evaluates, begun_of, Begins, Clears, KindOf, for_part, not_for, handed, Forgets, Remembers, Hands, runs_of, finishes_of, raises_of, leaves_of, CountOf, Names, Tuple, to_at, AllBound, Reaches, Binds, Enters, SendStep, StepOf, Roomy, Closes, HandsOn, StepsAt, Repeats, WorthAt}
 use Rattle.order.specs.Begin.{begin, part, part_at, begin_part}
@@ -56,7 +57,7 @@ pub binds-is : (v x : ℕ) (o : Order) → Binds v x o (binding v x o)
 binds-is v x o = record { is = λ l. refl }
 
 -- `worth_at`
-pub worth-is : {t : List ℕ} {k : ℕ} {o : Order} {n : ℕ} {w : Worth} → n ≡ get_or t (k * 13 + 9) 0 → Evaluates t o n 8 w → WorthAt t k o w
+pub worth-is : {t : List ℕ} {k : ℕ} {o : Order} {n : ℕ} {w : Result ℕ Fault} → n ≡ get_or t (k * 13 + 9) 0 → Evaluates t o n 8 w → WorthAt t k o w
 worth-is q x = record { is = λ long e m vars h f s l. x.is long e vars f (rw (q, h) s) l }
 
 -- `enters`
@@ -145,12 +146,12 @@ module _ (t : List ℕ) (k : ℕ) (o : Order) (h : k < 256) (w : length o.bound 
     send-misses f g = record { is = λ to q vs l pt s. rw (sym (send-bound to q vs l s) ∙ e, sym (send-reaches to q vs l s) ∙ f) g }
 
 -- `sets`
-pub record SetRow (t : List ℕ) (k v : ℕ) (o : Order) (e : Exp) (w : Worth) : Type 0 where
+pub record SetRow (t : List ℕ) (k v : ℕ) (o : Order) (e : Exp) (w : Result ℕ Fault) : Type 0 where
   pub variable : get_or t (k * 13 + 8) 0 ≡ v
   pub small : v < 16
   pub worth : w ≡ worth_of (evaluate e o)
 
-set-row : (t : List ℕ) (k v : ℕ) (o : Order) (e : Exp) (l : Acts) {w : Worth} → WorthAt t k o w → Stands (act (setting v e) l) k t → SetRow t k v o e w
+set-row : (t : List ℕ) (k v : ℕ) (o : Order) (e : Exp) (l : Acts) {w : Result ℕ Fault} → WorthAt t k o w → Stands (act (setting v e) l) k t → SetRow t k v o e w
 unfolding Stands row_of SpellsOwn own_within
 set-row t k v o e l x s =
     both (not s.first.arms) _ s.first.limits (λ a b.
@@ -162,8 +163,8 @@ set-row t k v o e l x s =
       worth = x.is s.first.long e s.first.node s.first.variables s.first.row.expression s.first.few s.first.expression i;
     }))))
 
-module _ (t : List ℕ) (k : ℕ) (o : Order) {w : Worth} (x : WorthAt t k o w) where
-  pub set-raises : {f : ℕ} → w ≡ Worth.Fault f → {r : Went} → r ≡ raises_of f k o → StepOf 3 t k o r
+module _ (t : List ℕ) (k : ℕ) (o : Order) {w : Result ℕ Fault} (x : WorthAt t k o w) where
+  pub set-raises : {f : Fault} → w ≡ Err f → {r : Went} → r ≡ raises_of f.number k o → StepOf 3 t k o r
   unfolding itself
   set-raises h {r} g = record {
     is = λ own l pt n s.
@@ -171,7 +172,7 @@ module _ (t : List ℕ) (k : ℕ) (o : Order) {w : Worth} (x : WorthAt t k o w) 
         (λ v e s. rw (fault-known (evaluate e o) (set-row t k v o e l x s).worth h) g) own n s;
   }
 
-  pub set-binds : {y : ℕ} → w ≡ Worth.Value y → {v : ℕ} → v ≡ get_or t (k * 13 + 8) 0 → {p : Order} → Binds v y o p → {r : Went} → r ≡ finishes_of k p → StepOf 3 t k o r
+  pub set-binds : {y : ℕ} → w ≡ Ok y → {v : ℕ} → v ≡ get_or t (k * 13 + 8) 0 → {p : Order} → Binds v y o p → {r : Went} → r ≡ finishes_of k p → StepOf 3 t k o r
   unfolding itself
   set-binds {y} h {v} q {p} z {r} g = record {
     is = λ own l pt n s.
@@ -212,11 +213,11 @@ module _ (t : List ℕ) (k : ℕ) (o : Order) {n : ℕ} (q : n ≡ get_or t (k *
   }
 
 -- `chooses`
-pub record ChooseRow (o : Order) (e : Exp) (l : Acts) (w : Worth) : Type 0 where
+pub record ChooseRow (o : Order) (e : Exp) (l : Acts) (w : Result ℕ Fault) : Type 0 where
   pub two : count l ≡ 2
   pub worth : w ≡ worth_of (evaluate e o)
 
-choose-row : (t : List ℕ) (k : ℕ) (o : Order) (e : Exp) (l : Acts) {w : Worth} → WorthAt t k o w → Stands (act (choose e) l) k t → ChooseRow o e l w
+choose-row : (t : List ℕ) (k : ℕ) (o : Order) (e : Exp) (l : Acts) {w : Result ℕ Fault} → WorthAt t k o w → Stands (act (choose e) l) k t → ChooseRow o e l w
 unfolding Stands row_of SpellsOwn own_within
 choose-row t k o e l x s =
     both (not s.first.arms) _ s.first.limits (λ a b.
@@ -232,8 +233,8 @@ unfolding itself begin_part part part_at
 chosen e a b pt k o y h true i = rw (h, i)
 chosen e a b pt k o y h false i = rw (h, i)
 
-module _ (t : List ℕ) (k : ℕ) (o : Order) {w : Worth} (x : WorthAt t k o w) where
-  pub choose-raises : {f : ℕ} → w ≡ Worth.Fault f → {r : Went} → r ≡ raises_of f k o → StepOf 6 t k o r
+module _ (t : List ℕ) (k : ℕ) (o : Order) {w : Result ℕ Fault} (x : WorthAt t k o w) where
+  pub choose-raises : {f : Fault} → w ≡ Err f → {r : Went} → r ≡ raises_of f.number k o → StepOf 6 t k o r
   unfolding itself
   choose-raises h {r} g = record {
     is = λ own l pt n s.
@@ -241,7 +242,7 @@ module _ (t : List ℕ) (k : ℕ) (o : Order) {w : Worth} (x : WorthAt t k o w) 
         (λ e s. rw (fault-known (evaluate e o) (choose-row t k o e l x s).worth h) g) own n s;
   }
 
-  module _ {y : ℕ} (h : w ≡ Worth.Value y) where
+  module _ {y : ℕ} (h : w ≡ Ok y) where
     pub choose-first : (y ≡ 0 → ⊥) → {r : Went} → Enters t k (k + 1) o r → StepOf 6 t k o r
     unfolding Stands
     choose-first z {r} g = record {
@@ -295,11 +296,11 @@ module _ (t : List ℕ) (k : ℕ) (o : Order) {e : ℕ} (z : End t k e) {n : Lis
   }
 
 -- `decides`
-pub record RepeatRow (o : Order) (e : Exp) (l : Acts) (w : Worth) : Type 0 where
+pub record RepeatRow (o : Order) (e : Exp) (l : Acts) (w : Result ℕ Fault) : Type 0 where
   pub one : count l ≡ 1
   pub worth : w ≡ worth_of (evaluate e o)
 
-repeat-row : (t : List ℕ) (k : ℕ) (o : Order) (e : Exp) (l : Acts) {w : Worth} → WorthAt t k o w → Stands (act (repeat e) l) k t → RepeatRow o e l w
+repeat-row : (t : List ℕ) (k : ℕ) (o : Order) (e : Exp) (l : Acts) {w : Result ℕ Fault} → WorthAt t k o w → Stands (act (repeat e) l) k t → RepeatRow o e l w
 unfolding Stands row_of SpellsOwn own_within
 repeat-row t k o e l x s =
     both (not s.first.arms) _ s.first.limits (λ a b.
@@ -314,8 +315,8 @@ unfolding itself
 decided e l pt k o y h true i = rw h (yes (is_true y) (repeats k l o) (finishes k o) i)
 decided e l pt k o y h false i = rw h (no (is_true y) (repeats k l o) (finishes k o) i)
 
-module _ (t : List ℕ) (k : ℕ) (o : Order) {w : Worth} (x : WorthAt t k o w) where
-  pub decide-raises : {f : ℕ} → w ≡ Worth.Fault f → {r : Went} → r ≡ raises_of f k o → StepOf 7 t k o r
+module _ (t : List ℕ) (k : ℕ) (o : Order) {w : Result ℕ Fault} (x : WorthAt t k o w) where
+  pub decide-raises : {f : Fault} → w ≡ Err f → {r : Went} → r ≡ raises_of f.number k o → StepOf 7 t k o r
   unfolding itself
   decide-raises h {r} g = record {
     is = λ own l pt n s.
@@ -323,7 +324,7 @@ module _ (t : List ℕ) (k : ℕ) (o : Order) {w : Worth} (x : WorthAt t k o w) 
         (λ e s. rw (fault-known (evaluate e o) (repeat-row t k o e l x s).worth h) g) own n s;
   }
 
-  module _ {y : ℕ} (h : w ≡ Worth.Value y) where
+  module _ {y : ℕ} (h : w ≡ Ok y) where
     pub decide-over : y ≡ 0 → {r : Went} → r ≡ finishes_of k o → StepOf 7 t k o r
     decide-over z {r} g = record {
       is = λ own l pt n s.
