@@ -4,7 +4,8 @@ use super::ready::{SENDS, fault_of, put_sending_fault, put_sent};
 use super::settled::{deed_of, put_raises};
 use drawing::{Out, entry, put, put_fault_name, put_next, put_scope, put_variable};
 use machine::{Message, Step};
-use order::{End, Order, Worth};
+use order::fault::Fault;
+use order::{End, Order};
 use plan::kind;
 use plan::table::{EXPRESSION, KIND, NUMBER, Table, VARIABLE};
 use sayings::put_by_fault;
@@ -75,18 +76,24 @@ fn put_send(
     put_sending_fault(out, at, names, cause)
 }
 
-fn put_set(out: &mut Out, used: usize, names: &[u8; 16896], variable: u32, w: Worth) -> usize {
+fn put_set(
+    out: &mut Out,
+    used: usize,
+    names: &[u8; 16896],
+    variable: u32,
+    w: Result<u32, Fault>,
+) -> usize {
     match w {
-        Worth::Value { value } => {
+        Ok(value) => {
             let mut at = put(out, used, b"set ");
             at = put_variable(out, at, names, variable);
             at = put(out, at, b" to");
             put_next(out, at, value as u64)
         }
-        Worth::Fault { number } => {
+        Err(fault) => {
             let mut at = put(out, used, b"faulted: it could not set ");
             at = put_variable(out, at, names, variable);
-            put_by_fault(out, at, names, number)
+            put_by_fault(out, at, names, fault.number)
         }
     }
 }
@@ -95,25 +102,21 @@ fn put_chosen(
     out: &mut Out,
     used: usize,
     names: &[u8; 16896],
-    w: Worth,
+    w: Result<u32, Fault>,
     yes: &[u8],
     no: &[u8],
 ) -> usize {
     match w {
-        Worth::Value { value } => {
-            if value == 0 {
-                return put(out, used, no);
-            }
-            put(out, used, yes)
-        }
-        Worth::Fault { number } => {
+        Ok(0) => put(out, used, no),
+        Ok(_) => put(out, used, yes),
+        Err(fault) => {
             let at = put(out, used, b"faulted: it could not decide");
-            put_by_fault(out, at, names, number)
+            put_by_fault(out, at, names, fault.number)
         }
     }
 }
 
-fn worth_of(table: &Table, n: usize, order: Order) -> Worth {
+fn worth_of(table: &Table, n: usize, order: Order) -> Result<u32, Fault> {
     order::evaluation::evaluate_at(table, order, entry(table, n, EXPRESSION) as usize, 8)
 }
 
