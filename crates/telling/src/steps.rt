@@ -4,7 +4,8 @@ use super::ready::{SENDS, fault_of, put_sending_fault, put_sent};
 use super::settled::{deed_of, put_raises};
 use drawing::{Out, entry, put_fault_name, put_scope, put_variable};
 use machine::{Message, Step};
-use order::{End, Order, Worth};
+use order::fault::Fault;
+use order::{End, Order};
 use plan::kind;
 use plan::table::{EXPRESSION, KIND, NUMBER, Table, VARIABLE};
 use sayings::put_by_fault;
@@ -72,34 +73,34 @@ fn put_send(
     put_sending_fault(out, names, cause);
 }
 
-fn put_set(out: &mut Out, names: &[u8; 16896], variable: u32, w: Worth) {
+fn put_set(out: &mut Out, names: &[u8; 16896], variable: u32, w: Result<u32, Fault>) {
     match w {
-        Worth::Value { value } => {
+        Ok(value) => {
             out.put(b"set ");
             put_variable(out, names, variable);
             out.put(b" to");
             out.put_next(value as u64);
         }
-        Worth::Fault { number } => {
+        Err(fault) => {
             out.put(b"faulted: it could not set ");
             put_variable(out, names, variable);
-            put_by_fault(out, names, number);
+            put_by_fault(out, names, fault.number);
         }
     }
 }
 
-fn put_chosen(out: &mut Out, names: &[u8; 16896], w: Worth, yes: &[u8], no: &[u8]) {
+fn put_chosen(out: &mut Out, names: &[u8; 16896], w: Result<u32, Fault>, yes: &[u8], no: &[u8]) {
     match w {
-        Worth::Value { value: 0 } => out.put(no),
-        Worth::Value { value: _ } => out.put(yes),
-        Worth::Fault { number } => {
+        Ok(0) => out.put(no),
+        Ok(_) => out.put(yes),
+        Err(fault) => {
             out.put(b"faulted: it could not decide");
-            put_by_fault(out, names, number);
+            put_by_fault(out, names, fault.number);
         }
     }
 }
 
-fn worth_of(table: &Table, n: usize, order: Order) -> Worth {
+fn worth_of(table: &Table, n: usize, order: Order) -> Result<u32, Fault> {
     order::evaluation::evaluate_at(table, order, entry(table, n, EXPRESSION) as usize, 8)
 }
 
