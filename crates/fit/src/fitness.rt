@@ -10,24 +10,20 @@ use plan::table::{COUNT, OPERATION, PARTNER, Table, VARIABLES, WIDTH};
 fn known_value(flag: u8, bound: u8, value: u32) -> u64
     ensures { result ≡ known_value flag bound value }
 {
-    if flag == 1 {
-        if bound == 1 {
-            return value as u64 + 1;
-        }
-        return 0;
+    if flag == 1 && bound == 1 {
+        u64::from(value) + 1
+    } else {
+        0
     }
-    0
 }
 
 // What an order asks at the places of its variables.
 pub fn known_of(flags: &[u8; 16], order: Order) -> [u64; 16]
     ensures { KnowsOrder flags.now order result }
 {
-    let mut out = [0u64; 16];
-    let mut i: usize = 0;
-    while i < 16 {
+    let mut out = [0; 16];
+    for i in 0..16 {
         out[i] = known_value(flags[i], order.bound[i], order.values[i]);
-        i += 1;
     }
     out
 }
@@ -36,24 +32,19 @@ pub fn known_of(flags: &[u8; 16], order: Order) -> [u64; 16]
 fn known_at(known: &[u64; 16], v: u32) -> u64
     ensures { result ≡ sixteenth known.now v }
 {
-    if 16 <= v {
-        return 0;
-    }
-    known[v as usize]
+    if v < 16 { known[v as usize] } else { 0 }
 }
 
 // What is asked at the places of row k.
 pub fn asked_at(table: &Table, known: &[u64; 16], k: usize) -> [u64; 4]
     ensures { AsksRow table.now known.now k result }
 {
-    let mut out = [0u64; 4];
+    let mut out = [0; 4];
     if 256 <= k {
         return out;
     }
-    let mut i: usize = 0;
-    while i < 4 {
+    for i in 0..4 {
         out[i] = known_at(known, table[k * WIDTH + VARIABLES + i]);
-        i += 1;
     }
     out
 }
@@ -62,10 +53,7 @@ pub fn asked_at(table: &Table, known: &[u64; 16], k: usize) -> [u64; 4]
 fn allows(asked: u64, value: u32) -> bool
     ensures { result ≡ (eqb asked 0 || eqb asked (value + 1)) }
 {
-    if asked == 0 {
-        return true;
-    }
-    asked == value as u64 + 1
+    asked == 0 || asked == u64::from(value) + 1
 }
 
 // Whether the first `count` values of the message at place j are those that are asked.
@@ -73,11 +61,8 @@ fn agrees_at(asked: &[u64; 4], letters: &[u32; 512], j: usize, count: usize) -> 
     requires { (j < 64) × (count ≤ 4) }
     ensures { Agrees asked.now letters.now j count result }
 {
-    let mut i: usize = 0;
-    while i < count {
-        if allows(asked[i], letters[j * 8 + 3 + i]) {
-            i += 1;
-        } else {
+    for i in 0..count {
+        if !allows(asked[i], letters[j * 8 + 3 + i]) {
             return false;
         }
     }
@@ -88,26 +73,15 @@ fn agrees_at(asked: &[u64; 4], letters: &[u32; 512], j: usize, count: usize) -> 
 pub fn fits_at(table: &Table, k: usize, asked: &[u64; 4], letters: &[u32; 512], j: usize) -> bool
     ensures { FitsRow table.now k asked.now letters.now j result }
 {
-    if 256 <= k {
-        return false;
-    }
-    if 64 <= j {
-        return false;
-    }
-    if letters[j * 8] != table[k * WIDTH + PARTNER] {
-        return false;
-    }
-    if letters[j * 8 + 1] != table[k * WIDTH + OPERATION] {
+    if 256 <= k || 64 <= j {
         return false;
     }
     let count = letters[j * 8 + 2];
-    if count != table[k * WIDTH + COUNT] {
-        return false;
-    }
-    if 4 < count {
-        return false;
-    }
-    agrees_at(asked, letters, j, count as usize)
+    letters[j * 8] == table[k * WIDTH + PARTNER]
+        && letters[j * 8 + 1] == table[k * WIDTH + OPERATION]
+        && count == table[k * WIDTH + COUNT]
+        && count <= 4
+        && agrees_at(asked, letters, j, count as usize)
 }
 
 // 1 where any value will do, and 0 where not.
@@ -128,12 +102,9 @@ pub fn unchecked_at(table: &Table, k: usize, asked: &[u64; 4]) -> usize
     if 4 < count {
         return 0;
     }
-    let many = count as usize;
-    let mut n: usize = 0;
-    let mut i: usize = 0;
-    while i < many {
+    let mut n = 0;
+    for i in 0..count as usize {
         n += unchecked_place(asked[i]);
-        i += 1;
     }
     n
 }

@@ -4,8 +4,8 @@ use Rattle.machine.proofs.load.Goals as goal
 
 ruleset cases = (load-no, load-yes, load-short)
 
-pub fresh_state-state-requires-in-Accepted : goal.fresh_state-state-requires-in-Accepted
-fresh_state-state-requires-in-Accepted c = search cases
+pub fresh_state-requires-in-Accepted : goal.fresh_state-requires-in-Accepted
+fresh_state-requires-in-Accepted c = search cases
 
 pub returns-in-Refused : goal.returns-in-Refused
 returns-in-Refused c = search cases
