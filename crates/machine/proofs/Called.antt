@@ -1,8 +1,8 @@
 -- The plan that a state runs by, and the returns of load, post and collect. Assumes nothing.
 use mathlib.Core.Path.{◌≡◌, refl, sym, ap, ◌∙◌}
 use mathlib.Core.Bool.{Bool, true, false, cond, not}
-use mathlib.Core.List.{List, [], ◌∷◌}
-use Prim.Native.Nat.{ℕ, ◌<◌, ◌≤◌}
+use mathlib.Core.List.{List, []}
+use Prim.Native.Nat.{ℕ, ◌≤◌}
 use native.Mathlib.Omega.{arith}
 use borrow.Author.Tests.{ltb-false, leb-true, not-true, not-false}
 use lib.Dec.{ltb, leb}
@@ -11,7 +11,7 @@ use lib.Seq.{length-take-le}
 use Rattle.plan.specs.declared.Answer.{Answer}
 use Rattle.plan.specs.declared.Answer.TheVariants.{Accepted}
 use Rattle.plan.specs.Answers.{answer_of, table_into, table_for, flags_for}
-use Rattle.plan.specs.Found.{Found, refused, found, and_then}
+use Rattle.plan.specs.Found.{Found, refused, found}
 use Rattle.plan.specs.Read.{read_any, read_plan}
 use Rattle.plan.proofs.Agreeing.{accepted-any}
 use Rattle.plan.specs.Tree.{Plan}
@@ -22,9 +22,9 @@ use Rattle.machine.specs.declared.Loaded.{Loaded}
 use Rattle.machine.specs.declared.Posted.{Posted}
 use Rattle.machine.specs.declared.Collected.{Collected}
 use Rattle.machine.specs.Heard.{Heard}
-use Rattle.machine.specs.Limits.{in_limits, plan_in, by}
-use Rattle.machine.specs.State.{no_message, fresh, unplanned}
-use Rattle.machine.specs.Calls.{load, loaded_as, post_by, post, partners_of, handing, collect_by, collect, drop_at}
+use Rattle.machine.specs.Limits.{in_limits, plan_in}
+use Rattle.machine.specs.State.{no_message, fresh}
+use Rattle.machine.specs.Calls.{load, post_by, post, partners_of, handing, collect_by, collect, drop_at}
 use Rattle.machine.proofs.Partners.{accepted-heard}
 
 -- what was found, where the answer is known

@@ -1,6 +1,6 @@
 -- A test of each element, as `all` of an iterator answers it. Assumes nothing.
 use mathlib.Core.Path.{◌≡◌, refl}
-use mathlib.Core.Bool.{Bool, ◌&&◌}
+use mathlib.Core.Bool.{Bool}
 use mathlib.Core.List.{List, [], ◌∷◌}
 use Rattle.std.specs.List.{list_all}
 use Rattle.order.specs.Lists.{every}

@@ -63,21 +63,13 @@ fn bare(mark: u8) -> u8
     if is_chosen(mark) { 0 } else { mark }
 }
 
-// The larger of two numbers.
-#[tactic(auto, using(std::proofs::lemmas::Bool::Decides::nat_tests))]
-fn larger(a: u8, b: u8) -> u8
-    ensures { (n : ℕ) → leb result n ≡ (leb a n && leb b n) }
-{
-    if a < b { b } else { a }
-}
-
 // Whether some numbers are at most this. It looks at all of them and not only up to the first that is beyond, so that many are compared at once.
 fn at_most(s: &[u8], most: u8) -> bool
     ensures { result ≡ every (λ x. leb x most) s.now }
 {
     let mut largest = 0;
     for x in s {
-        largest = larger(largest, *x);
+        largest = largest.max(*x);
     }
     largest <= most
 }
@@ -88,7 +80,7 @@ fn marks_ruled(marks: &[u8]) -> bool
 {
     let mut largest = 0;
     for x in marks {
-        largest = larger(largest, bare(*x));
+        largest = largest.max(bare(*x));
     }
     largest <= 8
 }

@@ -1,5 +1,4 @@
 -- `machine::limits::at_most` meets its contract. The loop's invariant: all are at most that if the largest so far is, and all that are left are. Assumes nothing.
-use Prim.Native.Nat.{◌-◌}
 use Rattle.machine.proofs.Ruled.{most-starts, most-more, most-done}
 use Rattle.machine.proofs.limits.at_most.Goals as goal
 

@@ -1,5 +1,4 @@
 -- `machine::limits::marks_ruled` meets its contract. The loop's invariant: all are within their limits if the largest so far is, and all that are left are. Assumes nothing.
-use Prim.Native.Nat.{◌-◌}
 use Rattle.machine.proofs.Ruled.{ruling-starts, ruling-more, ruling-done}
 use Rattle.machine.proofs.limits.marks_ruled.Goals as goal
 
