@@ -7,6 +7,7 @@ use order::Order;
 use plan::table::{COUNT, OPERATION, PARTNER, Table, VARIABLES, WIDTH};
 
 // What is asked at the place of a variable: one more than its value where it is checked, 0 where it is not.
+#[tactic(auto, using(crate::proofs::Sets::known_value))]
 fn known_value(flag: u8, bound: u8, value: u32) -> u64
     ensures { result ≡ known_value flag bound value }
 {
@@ -18,6 +19,7 @@ fn known_value(flag: u8, bound: u8, value: u32) -> u64
 }
 
 // What an order asks at the places of its variables.
+#[tactic(auto, using(crate::proofs::Sets::known_of))]
 pub fn known_of(flags: &[u8; 16], order: Order) -> [u64; 16]
     ensures { KnowsOrder flags.now order result }
 {
@@ -29,6 +31,7 @@ pub fn known_of(flags: &[u8; 16], order: Order) -> [u64; 16]
 }
 
 // What is asked at the place of variable v.
+#[tactic(auto, using(crate::proofs::Sets::known_at))]
 fn known_at(known: &[u64; 16], v: u32) -> u64
     ensures { result ≡ sixteenth known.now v }
 {
@@ -36,6 +39,7 @@ fn known_at(known: &[u64; 16], v: u32) -> u64
 }
 
 // What is asked at the places of row k.
+#[tactic(auto, using(crate::proofs::Sets::asked_at))]
 pub fn asked_at(table: &Table, known: &[u64; 16], k: usize) -> [u64; 4]
     ensures { AsksRow table.now known.now k result }
 {
@@ -50,6 +54,7 @@ pub fn asked_at(table: &Table, known: &[u64; 16], k: usize) -> [u64; 4]
 }
 
 // Whether a place at which this is asked may hold a value.
+#[tactic(auto, using(crate::proofs::Sets::allows))]
 fn allows(asked: u64, value: u32) -> bool
     ensures { result ≡ (eqb asked 0 || eqb asked (value + 1)) }
 {
@@ -57,6 +62,7 @@ fn allows(asked: u64, value: u32) -> bool
 }
 
 // Whether the first `count` values of the message at place j are those that are asked.
+#[tactic(auto, using(crate::proofs::Sets::agrees_at))]
 fn agrees_at(asked: &[u64; 4], letters: &[u32; 512], j: usize, count: usize) -> bool
     requires { (j < 64) × (count ≤ 4) }
     ensures { Agrees asked.now letters.now j count result }
@@ -70,6 +76,7 @@ fn agrees_at(asked: &[u64; 4], letters: &[u32; 512], j: usize, count: usize) -> 
 }
 
 // Whether the message at place j fits the receive or arm in row k, of which this is asked: all 32 bits of each checked place count.
+#[tactic(auto, using(crate::proofs::Sets::fits_at))]
 pub fn fits_at(table: &Table, k: usize, asked: &[u64; 4], letters: &[u32; 512], j: usize) -> bool
     ensures { FitsRow table.now k asked.now letters.now j result }
 {
@@ -85,6 +92,7 @@ pub fn fits_at(table: &Table, k: usize, asked: &[u64; 4], letters: &[u32; 512], 
 }
 
 // 1 where any value will do, and 0 where not.
+#[tactic(auto, using(crate::proofs::Sets::unchecked_place))]
 fn unchecked_place(asked: u64) -> usize
     ensures { Costs asked result }
 {
@@ -92,6 +100,7 @@ fn unchecked_place(asked: u64) -> usize
 }
 
 // How many places of the receive or arm in row k are unchecked.
+#[tactic(auto, using(crate::proofs::Sets::unchecked_at))]
 pub fn unchecked_at(table: &Table, k: usize, asked: &[u64; 4]) -> usize
     ensures { UncheckedRow table.now k asked.now result }
 {

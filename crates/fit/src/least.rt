@@ -8,6 +8,7 @@ use order::Order;
 use plan::table::Table;
 
 // The fewest for the message at place j, after the receive or arm in row k.
+#[tactic(auto, using(crate::proofs::Sets::least_letter))]
 fn least_letter(
     table: &Table,
     k: usize,
@@ -28,6 +29,7 @@ fn least_letter(
 }
 
 // For each message that waits, after the receive or arm in row k.
+#[tactic(auto, using(crate::proofs::Sets::least_letters))]
 fn least_letters(
     table: &Table,
     known: &[u64; 16],
@@ -47,6 +49,7 @@ fn least_letters(
 }
 
 // After row k: whether it is open is asked before any message is looked at.
+#[tactic(auto, using(crate::proofs::Sets::least_row))]
 fn least_row(
     table: &Table,
     picks: &[usize; 256],
@@ -66,6 +69,7 @@ fn least_row(
 }
 
 // After all rows of an order.
+#[tactic(auto, using(crate::proofs::Sets::least_rows))]
 fn least_rows(
     table: &Table,
     picks: &[usize; 256],
@@ -85,6 +89,7 @@ fn least_rows(
 }
 
 // After the order in a slot.
+#[tactic(auto, using(crate::proofs::Sets::least_slot))]
 pub fn least_slot(
     table: &Table,
     flags: &[u8; 16],

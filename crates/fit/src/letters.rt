@@ -4,6 +4,7 @@ ghost use Rattle.fit.specs.Answering.{Numbers, Letters};
 use machine::Message;
 
 // One of the eight numbers of a message: its partner, its operation, its count, its four values, its reply partner.
+#[tactic(auto, using(crate::proofs::Sets::number_of))]
 fn number_of(message: Message, i: usize) -> u32
     ensures { Numbers message i result }
 {
@@ -18,6 +19,7 @@ fn number_of(message: Message, i: usize) -> u32
 }
 
 // The numbers of the messages that wait.
+#[tactic(auto, using(crate::proofs::Sets::letters_of))]
 pub fn letters_of(messages: [Message; 64], waiting: usize) -> [u32; 512]
     ensures { Letters messages waiting result }
 {

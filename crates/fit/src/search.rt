@@ -11,6 +11,7 @@ use plan::kind;
 use plan::table::{END, Table, WIDTH};
 
 // Whether row j is an active pick.
+#[tactic(auto, using(crate::proofs::Sets::open_pick))]
 fn open_pick(table: &Table, marks: &[u8; 256], j: usize) -> bool
     requires { j < 256 }
     ensures { result ≡ open_pick table.now marks.now j }
@@ -19,6 +20,7 @@ fn open_pick(table: &Table, marks: &[u8; 256], j: usize) -> bool
 }
 
 // The nearest row before row k that it stands within, 256 where there is none.
+#[tactic(auto, using(crate::proofs::Sets::row_around))]
 fn row_around(table: &Table, k: usize) -> usize
     requires { k < 256 }
     ensures { result ≡ around_from table.now k k }
@@ -33,6 +35,7 @@ fn row_around(table: &Table, k: usize) -> usize
 }
 
 // Whether the arm in row k is open, where the rows that the arms stand within are not at hand.
+#[tactic(auto, using(crate::proofs::Sets::arm_at))]
 pub fn arm_at(table: &Table, marks: &[u8; 256], k: usize) -> bool
     ensures { ArmAt table.now marks.now k result }
 {
@@ -44,6 +47,7 @@ pub fn arm_at(table: &Table, marks: &[u8; 256], k: usize) -> bool
 }
 
 // The rows that the arms stand within.
+#[tactic(auto, using(crate::proofs::Sets::picks_of))]
 pub fn picks_of(table: &Table) -> [usize; 256]
     ensures { Picks table.now result }
 {
@@ -57,6 +61,7 @@ pub fn picks_of(table: &Table) -> [usize; 256]
 }
 
 // Whether the arm in row k is open: the row that it stands within is an active pick.
+#[tactic(auto, using(crate::proofs::Sets::arm_open))]
 pub fn arm_open(table: &Table, picks: &[usize; 256], marks: &[u8; 256], k: usize) -> bool
     ensures { ArmsRow table.now picks.now marks.now k result }
 {
@@ -68,6 +73,7 @@ pub fn arm_open(table: &Table, picks: &[usize; 256], marks: &[u8; 256], k: usize
 }
 
 // Whether row k is an open receive or arm.
+#[tactic(auto, using(crate::proofs::Sets::open_at))]
 pub(crate) fn open_at(table: &Table, picks: &[usize; 256], marks: &[u8; 256], k: usize) -> bool
     requires { k < 256 }
     ensures { OpensRow table.now picks.now marks.now k result }
@@ -80,6 +86,7 @@ pub(crate) fn open_at(table: &Table, picks: &[usize; 256], marks: &[u8; 256], k:
 }
 
 // Whether it is one that the message at place j fits.
+#[tactic(auto, using(crate::proofs::Sets::takes_at))]
 pub fn takes_at(
     table: &Table,
     picks: &[usize; 256],
@@ -99,6 +106,7 @@ pub fn takes_at(
 }
 
 // How many activities of an order are looked at: none where its slot is free.
+#[tactic(auto, using(crate::proofs::Sets::rows_of))]
 fn rows_of(order: Order, activities: usize) -> usize
     ensures { result ≡ cond (is_live order) activities 0 }
 {
@@ -106,6 +114,7 @@ fn rows_of(order: Order, activities: usize) -> usize
 }
 
 // The first open receive of a live order that the message at place j fits: live slots ascending, in each activities ascending.
+#[tactic(auto, using(crate::proofs::Sets::first_receiver))]
 pub fn first_receiver(
     table: &Table,
     flags: &[u8; 16],
@@ -121,7 +130,8 @@ pub fn first_receiver(
         let order = orders[slot];
         let marks = order.marks;
         let known = known_of(flags, order);
-        for k in 0..rows_of(order, activities) {
+        let rows = rows_of(order, activities);
+        for k in 0..rows {
             if takes_at(table, picks, &marks, &known, k, letters, j) {
                 return Some(Receiver { slot, activity: k });
             }
