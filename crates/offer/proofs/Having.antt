@@ -1,6 +1,6 @@
 -- What a state with its plan, table and flags has, how it comes by them, and the returns of the public calls. Assumes nothing.
-use mathlib.Core.Path.{◌≡◌, refl, sym, ap, ◌∙◌}
-use mathlib.Core.Bool.{Bool, true, false}
+use mathlib.Core.Path.{◌≡◌, ap, ◌∙◌}
+use mathlib.Core.Bool.{true, false}
 use mathlib.Core.List.{List}
 use Prim.Native.Nat.{ℕ, ◌+◌, ◌<◌, ◌≤◌}
 use native.Mathlib.Omega.{arith}
@@ -8,26 +8,21 @@ use lib.ListN.{length, take}
 use Rattle.plan.specs.declared.Answer.{Answer}
 use Rattle.plan.specs.declared.Answer.TheVariants.{Accepted}
 use Rattle.plan.specs.Answers.{answer_of, table_into, table_for, flags_for}
-use Rattle.plan.specs.Found.{Found, refused, found}
+use Rattle.plan.specs.Found.{found}
 use Rattle.plan.specs.Table.{table_of, flags_of}
 use Rattle.plan.specs.Tree.{Plan, size}
-use Rattle.order.specs.declared.Order.{Order}
-use Rattle.order.specs.Acting.{started_order}
-use Rattle.order.specs.Answering.{Spelled, StartsOrder}
 use Rattle.order.proofs.Accepted.{accepted-spelled}
 use Rattle.order.proofs.PlanStands.{plan-stands}
 use Rattle.order.proofs.Standing.{stands-inside}
 use Rattle.machine.specs.declared.State.{State}
 use Rattle.machine.specs.declared.Step.{Step}
 use Rattle.machine.specs.Calls.{preview_by, preview, refusing}
-use Rattle.machine.specs.Limits.{in_limits, plan_in, by}
-use Rattle.machine.specs.Offer.{offers_of}
+use Rattle.machine.specs.Limits.{in_limits, plan_in}
 use Rattle.machine.proofs.Called.{answer-no, answer-got, plan-found}
 use Rattle.machine.proofs.Moved.{limits-waiting}
 use Rattle.offer.specs.declared.Amount.{Amount}
 use Rattle.offer.specs.declared.Offered.{Offered}
 use Rattle.offer.specs.Having.{Has, OffersBy, offered_in}
-use Rattle.fit.specs.Lines.{Tabled}
 use Rattle.offer.specs.Seeing.{Previews, Amounts}
 use Rattle.fit.proofs.FirstFits.{accepted-correlated}
 
