@@ -11,8 +11,8 @@ ghost use Rattle.plan.specs.Read.{read_plan};
 use answers::step_number;
 use machine::Message;
 use offer::Offered;
-use plan::Answer;
 use plan::table::LENGTH;
+use plan::{Accepted, Answer, Refusal};
 
 fn pair_of(number: u32, place: usize) -> u64
     ensures { result ≡ pair_of number place }
@@ -32,12 +32,8 @@ fn number_of(a: Answer) -> u64
     ensures { result ≡ accept_number a }
 {
     match a {
-        Answer::Refused { number, place } => pair_of(number, place),
-        Answer::Accepted {
-            variables: _,
-            activities,
-            nodes: _,
-        } => activities as u64,
+        Err(Refusal { number, place }) => pair_of(number, place),
+        Ok(Accepted { activities, .. }) => activities as u64,
     }
 }
 

@@ -115,7 +115,8 @@ fn renew(old: &[u8], state: &mut [u8])
     let mut table = [0u32; LENGTH];
     let mut flags = [0u8; 16];
     let end = plan_end(old);
-    plan::accept(&old[36..end], &mut table, &mut flags);
+    // the table alone is asked for: where the plan is refused it is blank
+    let _ = plan::accept(&old[36..end], &mut table, &mut flags);
     fill(old, &table, state);
 }
 

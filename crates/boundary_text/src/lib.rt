@@ -98,11 +98,13 @@ pub fn moonhalyard_draw(s: &[u8], text: &mut [u8]) -> u64 {
     let mut correlation = [0u8; 16];
     let a = plan::accept_over(s, &mut table, &mut correlation);
     match a {
-        plan::Answer::Refused { number, place } => pair_of(wide(number), place as u64),
-        plan::Answer::Accepted {
-            variables,
-            activities,
-            nodes: _,
-        } => drawn(&table, &correlation, variables, activities, text),
+        Err(plan::Refusal { number, place }) => pair_of(wide(number), place as u64),
+        Ok(
+            plan::Accepted {
+                variables,
+                activities,
+                ..
+            },
+        ) => drawn(&table, &correlation, variables, activities, text),
     }
 }

@@ -11,7 +11,7 @@ ghost use Rattle.offer.specs.Having.{Has};
 ghost use Rattle.listing.specs.Listing.{listed_in, listed_out};
 
 use machine::{State, limits};
-use plan::Answer;
+use plan::Accepted;
 use plan::table::{LENGTH, Table};
 
 // What is carried along: how many steps are still to be passed by, and how many were written.
@@ -56,12 +56,7 @@ pub fn list(state: State, first: u32, out: &mut [u64]) -> Listed
     let mut table = [0u32; LENGTH];
     let mut flags = [0u8; 16];
     let a = limits::planned(state, &mut table, &mut flags);
-    let Answer::Accepted {
-        variables: _,
-        activities,
-        nodes: _,
-    } = a
-    else {
+    let Ok(Accepted { activities, .. }) = a else {
         return Listed {
             refusal: 17,
             many: 0,

@@ -9,7 +9,7 @@ ghost use Rattle.machine.specs.Calls as calls;
 ghost use Rattle.machine.specs.State.{no_tally};
 
 use order::{End, Order};
-use plan::Answer;
+use plan::Refusal;
 use plan::table::LENGTH;
 
 // A message: places beyond its count hold 0; `reply` is the partner to reply to.
@@ -104,12 +104,12 @@ pub fn load(s: &[u8]) -> Loaded
     let mut table = [0u32; LENGTH];
     let mut flags = [0u8; 16];
     match plan::accept_over(s, &mut table, &mut flags) {
-        Answer::Refused { number, place } => Loaded {
+        Err(Refusal { number, place }) => Loaded {
             refusal: number,
             place,
             state: made::fresh_state(&s[..0]),
         },
-        Answer::Accepted { .. } => Loaded {
+        Ok(_) => Loaded {
             refusal: 0,
             place: 0,
             state: made::fresh_state(s),

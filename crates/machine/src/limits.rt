@@ -11,8 +11,8 @@ ghost use Rattle.machine.specs.Limits.{exchanged, message_in_limits, root_in_lim
 
 use super::{Message, State};
 use order::{Order, fault, mark};
-use plan::Answer;
 use plan::table::{LENGTH, Table};
+use plan::{Answer, Refusal};
 
 // Whether a partner, an operation, a count of values and a partner to reply to are within their rules.
 #[tactic(auto, using(std::proofs::lemmas::Bool::Decides::nat_tests), unfolding(crate::specs::Limits::exchanged))]
@@ -151,10 +151,10 @@ pub fn planned(state: State, table: &mut Table, flags: &mut [u8; 16]) -> Answer
     if !state_ruled(state) {
         *table = [0u32; LENGTH];
         *flags = [0u8; 16];
-        return Answer::Refused {
+        return Err(Refusal {
             number: 17,
             place: 0,
-        };
+        });
     }
     // the plan is taken out: lent from within the state, it would have the whole state copied
     let bytes = state.plan;

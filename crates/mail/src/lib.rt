@@ -9,7 +9,6 @@ ghost use Rattle.machine.specs.Calls as calls;
 use machine::limits::planned;
 use machine::made::no_message;
 use machine::{Collected, Message, Posted, State};
-use plan::Answer;
 use plan::table::LENGTH;
 
 // Posts a message.
@@ -20,15 +19,8 @@ pub fn post(state: State, m: Message) -> Posted
     let mut flags = [0u8; 16];
     let a = planned(state, &mut table, &mut flags);
     match a {
-        Answer::Refused {
-            number: _,
-            place: _,
-        } => Posted { refusal: 17, state },
-        Answer::Accepted {
-            variables: _,
-            activities: _,
-            nodes: _,
-        } => letters::post_by(state, m),
+        Err(_) => Posted { refusal: 17, state },
+        Ok(_) => letters::post_by(state, m),
     }
 }
 
@@ -40,10 +32,7 @@ pub fn collect(state: State) -> Collected
     let mut flags = [0u8; 16];
     let a = planned(state, &mut table, &mut flags);
     match a {
-        Answer::Refused {
-            number: _,
-            place: _,
-        } => {
+        Err(_) => {
             let none = no_message();
             Collected {
                 refusal: 17,
@@ -51,11 +40,7 @@ pub fn collect(state: State) -> Collected
                 state,
             }
         }
-        Answer::Accepted {
-            variables: _,
-            activities: _,
-            nodes: _,
-        } => letters::collect_by(state, &table),
+        Ok(_) => letters::collect_by(state, &table),
     }
 }
 
@@ -67,10 +52,7 @@ pub fn drop_at(state: State, place: usize) -> Collected
     let mut flags = [0u8; 16];
     let a = planned(state, &mut table, &mut flags);
     match a {
-        Answer::Refused {
-            number: _,
-            place: _,
-        } => {
+        Err(_) => {
             let none = no_message();
             Collected {
                 refusal: 17,
@@ -78,10 +60,6 @@ pub fn drop_at(state: State, place: usize) -> Collected
                 state,
             }
         }
-        Answer::Accepted {
-            variables: _,
-            activities: _,
-            nodes: _,
-        } => letters::handed(state, place),
+        Ok(_) => letters::handed(state, place),
     }
 }

@@ -103,12 +103,8 @@ fn read_whole(s: &[u8], bytes: &[u8], n: usize) -> Reading
     let last = padded::place_of(s, n);
     let a = accepted(bytes, n);
     match a {
-        plan::Answer::Refused { number, place } => refusal(s, last, number, place),
-        plan::Answer::Accepted {
-            variables: _,
-            activities: _,
-            nodes: _,
-        } => {
+        Err(plan::Refusal { number, place }) => refusal(s, last, number, place),
+        Ok(_) => {
             if last < s.len() {
                 return Reading::Refused {
                     number: 9,

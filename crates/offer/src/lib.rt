@@ -10,7 +10,7 @@ ghost use Rattle.machine.specs.Calls.{preview};
 ghost use Rattle.offer.specs.Having.{Has, OffersBy, offered_in};
 
 use machine::{State, Step, limits};
-use plan::Answer;
+use plan::Accepted;
 use plan::table::{LENGTH, Table};
 use sight::counting;
 
@@ -54,10 +54,8 @@ pub fn offer(state: State, choice: usize) -> Step
     let mut table = [0u32; LENGTH];
     let mut flags = [0u8; 16];
     match limits::planned(state, &mut table, &mut flags) {
-        Answer::Refused { .. } => counting::refused(17),
-        Answer::Accepted { activities, .. } => {
-            offer_by(&table, &flags, activities, state, choice)
-        }
+        Err(_) => counting::refused(17),
+        Ok(Accepted { activities, .. }) => offer_by(&table, &flags, activities, state, choice),
     }
 }
 
@@ -83,11 +81,11 @@ pub fn offers(state: State) -> Offered
     let mut table = [0u32; LENGTH];
     let mut flags = [0u8; 16];
     match limits::planned(state, &mut table, &mut flags) {
-        Answer::Refused { .. } => Offered {
+        Err(_) => Offered {
             refusal: 17,
             many: 0,
             held: false,
         },
-        Answer::Accepted { activities, .. } => count_by(&table, &flags, activities, state),
+        Ok(Accepted { activities, .. }) => count_by(&table, &flags, activities, state),
     }
 }

@@ -12,7 +12,7 @@ mod sizes;
 use boxes::put_boxes;
 use drawing::{Out, put, put_drawing, put_markup, put_names};
 use machine::{State, Tally};
-use plan::Answer;
+use plan::Accepted;
 use plan::table::{LENGTH, Table};
 
 // How many bytes every page of the desk begins with, as no other file does.
@@ -121,15 +121,14 @@ fn put_state(out: &mut Out, used: usize, names: &[u8; 16896], state: State) -> u
     let mut flags = [0u8; 16];
     let a = machine::limits::planned(state, &mut table, &mut flags);
     match a {
-        Answer::Refused {
-            number: _,
-            place: _,
-        } => put_planless(out, used),
-        Answer::Accepted {
-            variables,
-            activities,
-            nodes: _,
-        } => put_planned(
+        Err(_) => put_planless(out, used),
+        Ok(
+            Accepted {
+                variables,
+                activities,
+                ..
+            },
+        ) => put_planned(
             out, used, names, &table, &flags, variables, activities, state,
         ),
     }

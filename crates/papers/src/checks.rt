@@ -2,8 +2,8 @@
 use super::{Desk, shown};
 use checking::{put_check, put_warnings};
 use drawing::{Out, put_pair};
-use plan::Answer;
 use plan::table::{LENGTH, Table};
+use plan::{Accepted, Refusal};
 
 // A refused plan has its refusal; where only warnings are wanted, it has none.
 fn put_refused(asked: bool, number: u32, place: usize, out: &mut Out, used: usize) -> usize {
@@ -33,12 +33,16 @@ fn put_checked(s: &[u8], names: &[u8; 16896], asked: bool, out: &mut Out, used: 
     let mut correlation = [0u8; 16];
     let a = plan::accept(s, &mut table, &mut correlation);
     match a {
-        Answer::Refused { number, place } => put_refused(asked, number, place, out, used),
-        Answer::Accepted {
-            variables: _,
+        Err(Refusal { number, place }) => put_refused(asked, number, place, out, used),
+        Ok(Accepted { activities, .. }) => put_accepted(
+            names,
+            &table,
+            &correlation,
             activities,
-            nodes: _,
-        } => put_accepted(names, &table, &correlation, activities, asked, out, used),
+            asked,
+            out,
+            used,
+        ),
     }
 }
 

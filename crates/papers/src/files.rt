@@ -4,7 +4,6 @@ use super::writing::forget;
 use super::{Desk, changed, failed, sealed, shown, system};
 use drawing::{Out, put, put_byte, put_error, put_next, put_refusal, runtime_of};
 use machine::State;
-use plan::Answer;
 use plan::table::LENGTH;
 use std::fs::File;
 use store::Kept;
@@ -224,15 +223,8 @@ fn is_sound(state: State) -> bool {
     let mut flags = [0u8; 16];
     let a = machine::limits::planned(state, &mut table, &mut flags);
     match a {
-        Answer::Accepted {
-            variables: _,
-            activities: _,
-            nodes: _,
-        } => true,
-        Answer::Refused {
-            number: _,
-            place: _,
-        } => is_blank(state),
+        Ok(_) => true,
+        Err(_) => is_blank(state),
     }
 }
 

@@ -5,8 +5,8 @@ use drawing::{
     Out, put, put_byte, put_drawing, put_error, put_hex, put_names, put_number, put_pair,
 };
 use machine::Loaded;
-use plan::Answer;
 use plan::table::{LENGTH, Table};
+use plan::{Accepted, Refusal};
 use text::Hex;
 
 // What a plan is found to be.
@@ -15,18 +15,8 @@ fn put_plan(s: &[u8], out: &mut Out, used: usize) -> usize {
     let mut correlation = [0u8; 16];
     let a = plan::accept(s, &mut table, &mut correlation);
     match a {
-        Answer::Refused { number, place } => put_pair(
-            out,
-            used,
-            b"plan",
-            number as u64,
-            place as u64,
-        ),
-        Answer::Accepted {
-            variables: _,
-            activities,
-            nodes: _,
-        } => put_pair(out, used, b"plan", 0, activities as u64),
+        Err(Refusal { number, place }) => put_pair(out, used, b"plan", number as u64, place as u64),
+        Ok(Accepted { activities, .. }) => put_pair(out, used, b"plan", 0, activities as u64),
     }
 }
 
@@ -60,12 +50,14 @@ fn put_draw(s: &[u8], names: &[u8; 16896], drawn: bool, out: &mut Out, used: usi
     let mut correlation = [0u8; 16];
     let a = plan::accept(s, &mut table, &mut correlation);
     match a {
-        Answer::Refused { number, place } => put_refused(drawn, number, place, out, used),
-        Answer::Accepted {
-            variables,
-            activities,
-            nodes: _,
-        } => put_accepted(
+        Err(Refusal { number, place }) => put_refused(drawn, number, place, out, used),
+        Ok(
+            Accepted {
+                variables,
+                activities,
+                ..
+            },
+        ) => put_accepted(
             names,
             &table,
             &correlation,

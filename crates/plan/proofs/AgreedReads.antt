@@ -5,10 +5,11 @@ use mathlib.Core.Bool.{true}
 use mathlib.Core.List.{List, []}
 use Prim.Native.Nat.{ℕ, ◌+◌, ◌≤◌}
 use lib.ListN.{length}
-use Rattle.plan.specs.declared.Answer.{Answer}
-use Rattle.plan.specs.declared.Answer.TheVariants.{Accepted}
+use Rattle.std.specs.Prelude.{Result, Ok, Err}
+use Rattle.plan.specs.declared.Accepted.{Accepted}
+use Rattle.plan.specs.declared.Refusal.{Refusal}
 use Rattle.plan.specs.Agree.{asked, judged}
-use Rattle.plan.specs.Answers.{answer_of, PlanPut, PlanRead}
+use Rattle.plan.specs.Answers.{refusal, accepted, answer_of, PlanPut, PlanRead}
 use Rattle.plan.specs.Found.{Found, refused, found, and_then}
 use Rattle.plan.specs.Heard.{rows_asked, differing}
 use Rattle.plan.specs.Read.{read_any, read_plan}
@@ -22,7 +23,7 @@ use Rattle.plan.proofs.TableLong.{length-put_all}
 use Rattle.plan.proofs.TableSpells.{limited}
 
 -- the plan that was read
-record Got (g : Found Plan) (t u flags : List ℕ) (k : ℕ) (r : Answer) : Type 0 where
+record Got (g : Found Plan) (t u flags : List ℕ) (k : ℕ) (r : Result Accepted Refusal) : Type 0 where
   plan : Plan
   next : ℕ
   is : g ≡ found plan next
@@ -31,24 +32,24 @@ record Got (g : Found Plan) (t u flags : List ℕ) (k : ℕ) (r : Answer) : Type
   answer : r ≡ answer_of (found plan next)
   whole : PlanPut (found plan next) t u flags
 
-got : (g : Found Plan) (t u flags : List ℕ) {r : Answer} {v k m : ℕ} → PlanRead g r t u flags → r ≡ Accepted v k m → Got g t u flags k r
+got : (g : Found Plan) (t u flags : List ℕ) {r : Result Accepted Refusal} {x : Accepted} → PlanRead g r t u flags → r ≡ Ok x → Got g t u flags x.activities r
 unfolding answer_of PlanPut
 got (refused n p) t u flags a o = let i = a.is in let z : ◌≡◌ {A = ℕ} 0 1 = cc in absurd (omega arith)
-got (found p n) t u flags {k = k} a o =
+got (found p n) t u flags {x = x} a o =
     let i = a.is in
-    let e : k ≡ size p.body + size p.fault = cc in
+    let e : x.activities ≡ size p.body + size p.fault = cc in
     record { plan = p; next = n; is = refl; rows = e; put = a.put.0; answer = a.is; whole = a.put }
 
-no-plan : (g : Found Plan) (t u flags : List ℕ) {r : Answer} {n p : ℕ} → PlanRead g r t u flags → r ≡ Answer.Refused n p → g ≡ refused n p
+no-plan : (g : Found Plan) (t u flags : List ℕ) {r : Result Accepted Refusal} {x : Refusal} → PlanRead g r t u flags → r ≡ Err x → g ≡ refused x.number x.place
 unfolding answer_of
 no-plan (refused n p) t u flags a o = let i = a.is in cc
 no-plan (found q n) t u flags a o = let i = a.is in let z : ◌≡◌ {A = ℕ} 0 1 = cc in absurd (omega arith)
 
-read-refused : (g : Found Plan) (t u flags : List ℕ) {number place : ℕ} → g ≡ refused number place → PlanRead g (Answer.Refused number place) t u flags
+read-refused : (g : Found Plan) (t u flags : List ℕ) {number place : ℕ} → g ≡ refused number place → PlanRead g (Err (refusal number place)) t u flags
 unfolding answer_of PlanPut
 read-refused g t u flags e = rw e (record { is = refl; put = tt })
 
-read_found : (g : Found Plan) (t u flags : List ℕ) {r : Answer} {p : Plan} {next : ℕ} → g ≡ found p next → r ≡ answer_of (found p next) → PlanPut (found p next) t u flags
+read_found : (g : Found Plan) (t u flags : List ℕ) {r : Result Accepted Refusal} {p : Plan} {next : ℕ} → g ≡ found p next → r ≡ answer_of (found p next) → PlanPut (found p next) t u flags
     → PlanRead g r t u flags
 read_found g t u flags e i w = rw e (record { is = i; put = w })
 
@@ -60,29 +61,29 @@ of-table : (p : Plan) → plan_within p ≡ true → (t u : List ℕ) → length
     → rows_asked k u 0 ≡ asked p
 of-table p h t u long e f = rw (e, f) (table-asked p h t (sym (over-long p t u f) ∙ long))
 
-module _ (s t u flags : List ℕ) {a : Answer} (x : PlanRead (read_any s) a t u flags) where
-  pub agreed-no : {n p : ℕ} → a ≡ Answer.Refused n p → PlanRead (read_plan s) (Answer.Refused n p) t u flags
+module _ (s t u flags : List ℕ) {a : Result Accepted Refusal} (x : PlanRead (read_any s) a t u flags) where
+  pub agreed-no : {y : Refusal} → a ≡ Err y → PlanRead (read_plan s) (Err y) t u flags
   unfolding read_plan
   agreed-no o = read-refused _ t u flags (rw (no-plan (read_any s) t u flags x o))
 
-  module _ {v k m : ℕ} (o : a ≡ Accepted v k m) where
-    g : Got (read_any s) t u flags k a
+  module _ {y : Accepted} (o : a ≡ Ok y) where
+    g : Got (read_any s) t u flags y.activities a
     g = got (read_any s) t u flags x o
 
-    pub agreed-few : k ≤ 256
+    pub agreed-few : y.activities ≤ 256
     agreed-few = omega (arith, g.rows, (limited g.plan (any-is-within s g.is)).few)
 
-    module _ (long : length u ≡ 11584) {d : ℕ} (e : d ≡ differing (rows_asked k u 0)) where
+    module _ (long : length u ≡ 11584) {d : ℕ} (e : d ≡ differing (rows_asked y.activities u 0)) where
       differing-is : d ≡ differing (asked g.plan)
       differing-is = e ∙ ap differing (of-table g.plan (any-is-within s g.is) t u long g.rows g.put)
 
       told : Told d (judged [] (asked g.plan) (found g.plan g.next)) (found g.plan g.next)
       told = rw differing-is (judged-by (asked g.plan) (found g.plan g.next) (plan-fits g.plan (any-is-within s g.is)))
 
-      pub agreed-yes : d ≡ 0 → PlanRead (read_plan s) (Accepted v k m) t u flags
+      pub agreed-yes : d ≡ 0 → PlanRead (read_plan s) (Ok y) t u flags
       unfolding read_plan
       agreed-yes z = read_found _ t u flags (rw g.is (told.agreed z)) (sym o ∙ g.answer) g.whole
 
-      pub agreed-differs : (d ≡ 0 → ⊥) → PlanRead (read_plan s) (Answer.Refused 21 d) t u flags
+      pub agreed-differs : (d ≡ 0 → ⊥) → PlanRead (read_plan s) (Err (refusal 21 d)) t u flags
       unfolding read_plan
       agreed-differs n = read-refused _ t u flags (rw g.is (told.differed n))

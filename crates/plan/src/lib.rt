@@ -85,19 +85,23 @@ pub enum Out {
     },
 }
 
-// Whether bytes are a plan.
-#[derive(Clone, Copy)]
-pub enum Answer {
-    Accepted {
-        variables: u32,
-        activities: usize,
-        nodes: usize,
-    },
-    Refused {
-        number: u32,
-        place: usize,
-    },
+// Why bytes are no plan: the refusal's number, and the place of the byte in trouble.
+#[derive(Clone, Copy, PartialEq, Eq, Debug)]
+pub struct Refusal {
+    pub number: u32,
+    pub place: usize,
 }
+
+// What is found of bytes that are a plan: how many variables, activities and expression nodes it has.
+#[derive(Clone, Copy, PartialEq, Eq, Debug)]
+pub struct Accepted {
+    pub variables: u32,
+    pub activities: usize,
+    pub nodes: usize,
+}
+
+// Whether bytes are a plan.
+pub type Answer = Result<Accepted, Refusal>;
 
 // The whole plan, written over what the table held: for a caller with a blank table, which need not be blanked again. Its answer, and in the lent
 // arrays its rows and which variables are for correlation; all zero where it is refused.
@@ -108,21 +112,11 @@ pub fn accept_over(s: &[u8], table: &mut Table, correlation: &mut [u8; 16]) -> A
 {
     *correlation = [0u8; 16];
     let a = root::agreed_at(s, table, correlation);
-    match a {
-        Answer::Accepted {
-            variables: _,
-            activities: _,
-            nodes: _,
-        } => a,
-        Answer::Refused {
-            number: _,
-            place: _,
-        } => {
-            *table = [0u32; LENGTH];
-            *correlation = [0u8; 16];
-            a
-        }
+    if a.is_err() {
+        *table = [0u32; LENGTH];
+        *correlation = [0u8; 16];
     }
+    a
 }
 
 // The whole plan: its answer, and in the lent arrays its table and which variables are for correlation. All zero where it is refused.

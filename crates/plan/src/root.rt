@@ -11,7 +11,7 @@ use super::agree::first_differing;
 use super::fields::{field_at, number_at};
 use super::table::Table;
 use super::tree::activities_at;
-use super::{Answer, Field, Out};
+use super::{Accepted, Answer, Field, Out, Refusal};
 
 // The version, which is 1.
 fn version_at(s: &[u8]) -> Field
@@ -75,7 +75,7 @@ fn root_at(s: &[u8], at: usize, vars: u32, flags: &[u8; 16], table: &mut Table) 
 {
     let parts = activities_at(s, at, false, false, true, 2, 16, vars, flags, 0, 0, table);
     match parts {
-        Out::Refused { number, place } => Answer::Refused { number, place },
+        Out::Refused { number, place } => Err(Refusal { number, place }),
         Out::Read {
             next,
             count,
@@ -84,22 +84,22 @@ fn root_at(s: &[u8], at: usize, vars: u32, flags: &[u8; 16], table: &mut Table) 
             every: _,
         } => {
             if next < s.len() {
-                return Answer::Refused {
+                return Err(Refusal {
                     number: 9,
                     place: next,
-                };
+                });
             }
             if first {
-                return Answer::Accepted {
+                return Ok(Accepted {
                     variables: vars,
                     activities: count,
                     nodes,
-                };
+                });
             }
-            Answer::Refused {
+            Err(Refusal {
                 number: 7,
                 place: at,
-            }
+            })
         }
     }
 }
@@ -111,11 +111,11 @@ fn flagged_at(s: &[u8], at: usize, vars: u32, table: &mut Table, flags: &mut [u8
 {
     let c = field_at(s, at, 0, vars + 1);
     match c {
-        Field::Refused { number, place } => Answer::Refused { number, place },
+        Field::Refused { number, place } => Err(Refusal { number, place }),
         Field::Got { value: count, next } => {
             let f = correlation_at(s, next, count, vars, flags);
             match f {
-                Field::Refused { number, place } => Answer::Refused { number, place },
+                Field::Refused { number, place } => Err(Refusal { number, place }),
                 Field::Got {
                     value: _,
                     next: body,
@@ -131,18 +131,18 @@ fn plan_at(s: &[u8], table: &mut Table, flags: &mut [u8; 16]) -> Answer
     ensures { PlanRead (read_any s.now) result table.old table.new flags.new }
 {
     if 4096 < s.len() {
-        return Answer::Refused {
+        return Err(Refusal {
             number: 1,
             place: 0,
-        };
+        });
     }
     let version = version_at(s);
     match version {
-        Field::Refused { number, place } => Answer::Refused { number, place },
+        Field::Refused { number, place } => Err(Refusal { number, place }),
         Field::Got { value: _, next } => {
             let v = field_at(s, next, 1, 17);
             match v {
-                Field::Refused { number, place } => Answer::Refused { number, place },
+                Field::Refused { number, place } => Err(Refusal { number, place }),
                 Field::Got {
                     value: vars,
                     next: after,
@@ -157,23 +157,10 @@ pub(crate) fn agreed_at(s: &[u8], table: &mut Table, flags: &mut [u8; 16]) -> An
     requires { flags.old ≡ blank_flags }
     ensures { PlanRead (read_plan s.now) result table.old table.new flags.new }
 {
-    let a = plan_at(s, table, flags);
-    match a {
-        Answer::Refused { number, place } => Answer::Refused { number, place },
-        Answer::Accepted {
-            variables,
-            activities,
-            nodes,
-        } => {
-            let place = first_differing(table, activities);
-            if place == 0 {
-                return Answer::Accepted {
-                    variables,
-                    activities,
-                    nodes,
-                };
-            }
-            Answer::Refused { number: 21, place }
-        }
+    let a = plan_at(s, table, flags)?;
+    let place = first_differing(table, a.activities);
+    if place == 0 {
+        return Ok(a);
     }
+    Err(Refusal { number: 21, place })
 }

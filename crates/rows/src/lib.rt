@@ -19,12 +19,14 @@ pub fn rows(s: &[u8], out: &mut [u32]) -> Answer
     let mut correlation = [0u8; 16];
     let a = plan::accept_over(s, &mut table, &mut correlation);
     match a {
-        plan::Answer::Refused { number, place } => Answer::Refused { number, place },
-        plan::Answer::Accepted {
-            variables: _,
-            activities,
-            nodes,
-        } => {
+        Err(plan::Refusal { number, place }) => Answer::Refused { number, place },
+        Ok(
+            plan::Accepted {
+                activities,
+                nodes,
+                ..
+            },
+        ) => {
             let left = activities + nodes + cut::between(&table, activities);
             if out.len() / 20 <= left {
                 return Answer::Refused {

@@ -10,7 +10,7 @@ ghost use Rattle.run.specs.Running.{ran_of};
 ghost use Rattle.run.specs.Telling.{told_by, told_in};
 
 use machine::{State, Tally, limits};
-use plan::Answer;
+use plan::Accepted;
 use plan::table::{LENGTH, Table};
 
 // What a run gives: the steps taken, the refusal or 0, the state and the tally.
@@ -97,12 +97,7 @@ pub fn run_told(
     let mut table = [0u32; LENGTH];
     let mut flags = [0u8; 16];
     let a = limits::planned(state, &mut table, &mut flags);
-    let Answer::Accepted {
-        variables: _,
-        activities,
-        nodes: _,
-    } = a
-    else {
+    let Ok(Accepted { activities, .. }) = a else {
         return Ran {
             taken: 0,
             refusal: 17,

@@ -6,7 +6,7 @@ ghost use Rattle.plan.specs.Read.{read_plan};
 ghost use Rattle.show.specs.Shown.{shown_part, shown_start, shown_refusal};
 
 use plan::table::{LENGTH, PLACE, STOP, Table, WIDTH};
-use plan::{Answer, accept};
+use plan::{Accepted, Refusal, accept};
 
 // A number of the table as a place.
 fn wide(x: u32) -> usize
@@ -42,16 +42,12 @@ pub fn show<'a>(s: &'a [u8], k: usize, start: &mut usize, refusal: &mut u32) -> 
     let mut correlation = [0u8; 16];
     let a = accept(s, &mut table, &mut correlation);
     match a {
-        Answer::Refused { number, place: _ } => {
+        Err(Refusal { number, .. }) => {
             *start = 0;
             *refusal = number;
             between(s, 0, 0)
         }
-        Answer::Accepted {
-            variables: _,
-            activities,
-            nodes: _,
-        } => {
+        Ok(Accepted { activities, .. }) => {
             if k < activities {
                 let from = column(&table, k, PLACE);
                 let to = column(&table, k, STOP);

@@ -2,8 +2,8 @@
 use drawing::{Out, put, put_byte, put_next, put_pair, unended};
 use machine::State;
 use papers::{Desk, braked, failed, is_braked, live_in, put_lost, refused, shown};
-use plan::Answer;
 use plan::table::LENGTH;
+use plan::{Accepted, Answer, Refusal};
 use sayings::put_refused;
 use text::Hex;
 
@@ -13,15 +13,8 @@ pub(crate) fn activities_of(state: State) -> usize {
     let mut flags = [0u8; 16];
     let a = machine::limits::planned(state, &mut table, &mut flags);
     match a {
-        Answer::Refused {
-            number: _,
-            place: _,
-        } => 0,
-        Answer::Accepted {
-            variables: _,
-            activities,
-            nodes: _,
-        } => activities,
+        Err(_) => 0,
+        Ok(Accepted { activities, .. }) => activities,
     }
 }
 
@@ -61,10 +54,10 @@ fn answer_of(bytes: &[u8], count: usize) -> Answer {
     if count <= bytes.len() {
         return plan::accept(&bytes[0..count], &mut table, &mut flags);
     }
-    Answer::Refused {
+    Err(Refusal {
         number: 2,
         place: 0,
-    }
+    })
 }
 
 fn answer_in(bytes: &[u8; 8000], count: usize) -> Answer {
@@ -77,11 +70,11 @@ fn plan_of(word: &[u8]) -> Answer {
     let h = text::decode(word, &mut given);
     match h {
         Hex::Bytes { count } => answer_in(&given, count),
-        Hex::Long | Hex::Bad => Answer::Accepted {
+        Hex::Long | Hex::Bad => Ok(Accepted {
             variables: 0,
             activities: 0,
             nodes: 0,
-        },
+        }),
     }
 }
 
@@ -99,15 +92,13 @@ pub(crate) fn plan(
     }
     let a = plan_of(word);
     match a {
-        Answer::Refused {
-            number: refusal,
-            place,
-        } => turned_down(desk, refusal, place, out),
-        Answer::Accepted {
-            variables: _,
-            activities: _,
-            nodes: _,
-        } => {
+        Err(
+            Refusal {
+                number: refusal,
+                place,
+            },
+        ) => turned_down(desk, refusal, place, out),
+        Ok(_) => {
             let d = papers::load(desk, word, number, bytes, names, out);
             told(d, bytes, names, out)
         }

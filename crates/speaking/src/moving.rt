@@ -5,7 +5,7 @@ use drawing::{Out, put, put_byte, put_number, put_pair, unended};
 use machine::{Collected, Message, State, Step, Tally};
 use order::Order;
 use papers::{Desk, changed, refused};
-use plan::Answer;
+use plan::Accepted;
 use plan::table::LENGTH;
 use run::Ran;
 use sayings::put_refused;
@@ -34,15 +34,10 @@ fn put_taken(out: &mut Out, used: usize, names: &[u8; 16896], state: State, x: S
     let m = message_in(messages, x.place);
     let a = machine::limits::planned(state, &mut table, &mut flags);
     match a {
-        Answer::Refused {
-            number: _,
-            place: _,
-        } => used,
-        Answer::Accepted {
-            variables: _,
-            activities,
-            nodes: _,
-        } => telling::put_step(out, used, names, &table, &flags, activities, order, m, x),
+        Err(_) => used,
+        Ok(Accepted { activities, .. }) => telling::put_step(
+            out, used, names, &table, &flags, activities, order, m, x,
+        ),
     }
 }
 
@@ -201,15 +196,10 @@ fn put_out(out: &mut Out, used: usize, names: &[u8; 16896], state: State, m: Mes
     let mut flags = [0u8; 16];
     let a = machine::limits::planned(state, &mut table, &mut flags);
     match a {
-        Answer::Refused {
-            number: _,
-            place: _,
-        } => used,
-        Answer::Accepted {
-            variables: _,
-            activities,
-            nodes: _,
-        } => telling::put_letter(out, used, names, &table, activities, m),
+        Err(_) => used,
+        Ok(Accepted { activities, .. }) => telling::put_letter(
+            out, used, names, &table, activities, m,
+        ),
     }
 }
 

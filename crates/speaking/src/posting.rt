@@ -5,7 +5,7 @@ use machine::{Message, State};
 use names::Stands;
 use papers::{Desk, changed, failed, refused};
 use phrases::{has_more, part};
-use plan::Answer;
+use plan::Accepted;
 use plan::table::{LENGTH, Table};
 use text::Word;
 
@@ -116,15 +116,8 @@ fn put_waits(out: &mut Out, used: usize, names: &[u8; 16896], state: State, m: M
     let mut flags = [0u8; 16];
     let a = machine::limits::planned(state, &mut table, &mut flags);
     match a {
-        Answer::Refused {
-            number: _,
-            place: _,
-        } => used,
-        Answer::Accepted {
-            variables: _,
-            activities,
-            nodes: _,
-        } => {
+        Err(_) => used,
+        Ok(Accepted { activities, .. }) => {
             let mut at = telling::put_letter(out, used, names, &table, activities, m);
             at = put(out, at, b"; waits at place");
             at = put_next(out, at, state.waiting as u64);

@@ -3,7 +3,7 @@ use super::keeping::activities_of;
 use drawing::{Out, put, put_aligned, put_byte, put_next, put_number, put_refusal, unended};
 use machine::{Message, State, Tally};
 use papers::{Desk, refused};
-use plan::Answer;
+use plan::Accepted;
 use plan::table::{LENGTH, Table};
 use sayings::put_refused;
 
@@ -190,15 +190,8 @@ fn put_waiting(out: &mut Out, used: usize, names: &[u8; 16896], state: State) ->
     let messages = state.messages;
     let a = machine::limits::planned(state, &mut table, &mut flags);
     match a {
-        Answer::Refused {
-            number: _,
-            place: _,
-        } => put_byte(out, used, 10),
-        Answer::Accepted {
-            variables: _,
-            activities,
-            nodes: _,
-        } => put_all(
+        Err(_) => put_byte(out, used, 10),
+        Ok(Accepted { activities, .. }) => put_all(
             out,
             used,
             names,

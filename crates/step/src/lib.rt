@@ -10,7 +10,7 @@ ghost use Rattle.step.specs.Stepping.{bare, nothing_by, StepsBy};
 
 use machine::{Message, State, Step, Tally, limits, made};
 use order::{End, Order};
-use plan::Answer;
+use plan::Accepted;
 use plan::table::{LENGTH, Table};
 
 // What a step gives: its answer, the state and the tally.
@@ -98,12 +98,7 @@ pub fn take_step(state: State, choice: usize, tally: Tally) -> Stepped
     let mut table = [0u32; LENGTH];
     let mut flags = [0u8; 16];
     let a = limits::planned(state, &mut table, &mut flags);
-    let Answer::Accepted {
-        variables: _,
-        activities,
-        nodes: _,
-    } = a
-    else {
+    let Ok(Accepted { activities, .. }) = a else {
         let answer = refused(17);
         return Stepped {
             answer,

@@ -2,8 +2,8 @@
 // Standard input has a vector on each line: bytes in hexadecimal, refusal, place, activities; `#` starts a comment.
 #![tactic(auto)]
 
-use plan::Answer;
 use plan::table::LENGTH;
+use plan::{Accepted, Refusal};
 use std::io::Read;
 use text::{Decimal, Hex, Line};
 
@@ -54,16 +54,12 @@ fn reading(s: &[u8]) -> Outcome {
     let mut correlation = [0u8; 16];
     let a = plan::accept(s, &mut table, &mut correlation);
     match a {
-        Answer::Refused { number, place } => Outcome {
+        Err(Refusal { number, place }) => Outcome {
             refusal: number as u64,
             place: place as u64,
             activities: 0,
         },
-        Answer::Accepted {
-            variables: _,
-            activities,
-            nodes: _,
-        } => Outcome {
+        Ok(Accepted { activities, .. }) => Outcome {
             refusal: 0,
             place: 0,
             activities: activities as u64,

@@ -11,7 +11,7 @@ mod undo;
 use drawing::{Out, put, put_byte, put_next, put_variable};
 use machine::State;
 use order::Order;
-use plan::Answer;
+use plan::Accepted;
 use plan::table::{LENGTH, Table};
 use telling::value_in;
 pub use undo::put_undone;
@@ -188,15 +188,10 @@ pub fn put_why(
     let mut flags = [0u8; 16];
     let a = machine::limits::planned(state, &mut table, &mut flags);
     match a {
-        Answer::Refused {
-            number: _,
-            place: _,
-        } => used,
-        Answer::Accepted {
-            variables: _,
-            activities,
-            nodes: _,
-        } => put_all(out, used, names, &table, &flags, activities, state, only),
+        Err(_) => used,
+        Ok(Accepted { activities, .. }) => put_all(
+            out, used, names, &table, &flags, activities, state, only,
+        ),
     }
 }
 

@@ -8,8 +8,8 @@ use drawing::{
 use machine::{Message, State};
 use offer::Offered;
 use order::Order;
+use plan::kind;
 use plan::table::{KIND, LENGTH, Table};
-use plan::{Answer, kind};
 
 // A command word, how much is offered, and whether something is held.
 fn put_count(out: &mut Out, used: usize, word: &[u8], o: Offered) -> usize {
@@ -259,15 +259,8 @@ pub fn put_offers(out: &mut Out, used: usize, names: &[u8; 16896], state: State)
     let o = offer::offers(state);
     let a = machine::limits::planned(state, &mut table, &mut flags);
     match a {
-        Answer::Refused {
-            number: _,
-            place: _,
-        } => put_refusal(out, used, b"offers", 17),
-        Answer::Accepted {
-            variables: _,
-            activities: _,
-            nodes: _,
-        } => {
+        Err(_) => put_refusal(out, used, b"offers", 17),
+        Ok(_) => {
             let mut at = put_count(out, used, b"offers", o);
             at = put_byte(out, at, 10);
             at = put_choices(out, at, names, &table, &flags, state, o.many);

@@ -6,7 +6,7 @@ use drawing::{
 };
 use machine::State;
 use order::Order;
-use plan::Answer;
+use plan::Accepted;
 use plan::table::{LENGTH, Table};
 
 // The order in a slot; what a free slot holds where there is no such slot.
@@ -275,15 +275,16 @@ pub fn put_orders(out: &mut Out, used: usize, names: &[u8; 16896], state: State)
     let orders = state.orders;
     let a = machine::limits::planned(state, &mut table, &mut correlation);
     match a {
-        Answer::Refused {
-            number: _,
-            place: _,
-        } => put_refusal(out, used, b"orders", 17),
-        Answer::Accepted {
+        Err(_) => put_refusal(out, used, b"orders", 17),
+        Ok(Accepted { variables, .. }) => put_order_lines(
+            out,
+            used,
+            names,
+            &table,
+            &correlation,
             variables,
-            activities: _,
-            nodes: _,
-        } => put_order_lines(out, used, names, &table, &correlation, variables, orders),
+            orders,
+        ),
     }
 }
 
@@ -373,15 +374,14 @@ pub fn put_order(
     let order = order_in(orders, slot);
     let a = machine::limits::planned(state, &mut table, &mut correlation);
     match a {
-        Answer::Refused {
-            number: _,
-            place: _,
-        } => put_refusal(out, used, b"order", 17),
-        Answer::Accepted {
-            variables,
-            activities,
-            nodes: _,
-        } => put_drawn_order(
+        Err(_) => put_refusal(out, used, b"order", 17),
+        Ok(
+            Accepted {
+                variables,
+                activities,
+                ..
+            },
+        ) => put_drawn_order(
             out,
             used,
             names,
