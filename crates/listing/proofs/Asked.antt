@@ -9,8 +9,9 @@ use native.Mathlib.Numerals.{add-one}
 use borrow.Author.Tests.{lt-ltb, le-ltb}
 use lib.ListN.{length, get_or, take, drop, set, length-drop, length-set}
 use lib.Seq.{drop-drop, get_or-drop}
-use Rattle.plan.specs.declared.Answer.{Answer}
-use Rattle.plan.specs.declared.Answer.TheVariants.{Accepted}
+use Rattle.std.specs.Prelude.{Result, Ok, Err}
+use Rattle.plan.specs.declared.Accepted.{Accepted}
+use Rattle.plan.specs.declared.Refusal.{Refusal}
 use Rattle.plan.specs.Answers.{answer_of, table_for, flags_for}
 use Rattle.plan.specs.Tree.{Plan}
 use Rattle.order.specs.declared.Order.{Order}
@@ -204,7 +205,7 @@ module _ {t flags : List ℕ} {n : ℕ} {s : State} {first skip at : ℕ} {out v
   list_written = ap (λ (x : Listing). x.out) is_all ∙ (list-out (offers_of h.plan s).offered first 0 out (omega arith) ∙ rw h.planned.is)
 
 -- `list`: a state that earns 17
-module _ (s : State) {a : Answer} (e : a ≡ answer_of (plan_in s)) {number place : ℕ} (o : a ≡ Answer.Refused number place) where
+module _ (s : State) {a : Result Accepted Refusal} (e : a ≡ answer_of (plan_in s)) {bad : Refusal} (o : a ≡ Err bad) where
   pub list-unplanned : (first room : ℕ) → ◌≡◌ {A = Listed} (record { refusal = 17; many = 0 }) (listed_in first s room)
   unfolding listed_in
   list-unplanned first room = rw (answer-no (plan_in s) e o)
