@@ -1,2 +1,1 @@
-mod Numbered
 pub mod Filling

@@ -9,6 +9,7 @@ use machine::Step;
 use order::End;
 
 // The number of an end.
+#[tactic(auto, unfolding(machine::specs::Calls::end_number))]
 fn end_of(end: End) -> u64
     ensures { result ≡ end_number end }
 {
@@ -22,17 +23,16 @@ fn end_of(end: End) -> u64
 }
 
 // A step as one number.
+#[tactic(auto, unfolding(crate::specs::Numbering::step_number))]
 pub fn step_number(x: Step) -> u64
     ensures { result ≡ step_number x }
 {
-    let end = x.end;
-    let e = end_of(end);
-    (x.fault as u64) * 1099511627776
-        + (x.refusal as u64) % 256 * 4294967296
+    u64::from(x.fault) * 1099511627776
+        + u64::from(x.refusal) % 256 * 4294967296
         + (x.slot as u64) % 256 * 16777216
         + (x.activity as u64) % 256 * 65536
         + (x.place as u64) % 256 * 256
-        + e % 256
+        + end_of(x.end) % 256
 }
 
 // Writes a number at a place, where there is such a place.

@@ -1,17 +1,16 @@
 -- Going through the slots visits the live orders, in order: stated once, for any state that is carried along. Assumes nothing.
 use mathlib.Core.Path.{◌≡◌, refl, sym, ap, ◌∙◌}
-use mathlib.Core.Bool.{Bool, true, false, cond, not}
-use mathlib.Core.List.{List, [], ◌∷◌}
+use mathlib.Core.Bool.{Bool, true, false, cond}
+use mathlib.Core.List.{List, ◌∷◌}
 use Prim.Native.Nat.{ℕ, suc, ◌+◌, ◌<◌, ◌≤◌}
 use native.Mathlib.Numerals.{add-one}
 use native.Mathlib.Omega.{arith}
 use borrow.Author.Tests.{eq-eqb}
-use lib.Dec.{eqb}
 use lib.ListN.{length, get_or, drop, drop_of_length-le}
 use lib.Seq.{drop-cons}
 use Rattle.plan.specs.Tree.{Plan}
 use Rattle.order.specs.declared.Order.{Order}
-use Rattle.machine.specs.Fit.{Ready, ready_of, Live, live_from, Letter}
+use Rattle.machine.specs.Fit.{ready_of, Live, live_from, Letter}
 use Rattle.order.specs.State.{is_live}
 use Rattle.fit.specs.Folds.{folded}
 use Rattle.fit.specs.Lines.{Tabled}

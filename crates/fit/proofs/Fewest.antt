@@ -1,29 +1,27 @@
 -- The returns of the functions that look for the fewest unchecked places. Assumes nothing.
-use mathlib.Core.Path.{◌≡◌, refl, sym, ap, ◌∙◌}
-use mathlib.Core.Bool.{Bool, true, false, cond, not, ◌&&◌, ◌||◌}
-use mathlib.Core.List.{List, [], ◌∷◌, ◌++◌}
-use Prim.Native.Nat.{ℕ, zero, suc, ◌+◌, ◌*◌, ◌-◌, ◌<◌, ◌≤◌}
-use native.Mathlib.Decide.{ℕ_discrete, dec_lt}
-use native.Mathlib.Numerals.{add-one}
+use mathlib.Core.Path.{◌≡◌, refl, sym, ◌∙◌}
+use mathlib.Core.Bool.{Bool, true, false, cond, ◌&&◌}
+use mathlib.Core.List.{List, [], ◌∷◌}
+use Prim.Native.Nat.{ℕ, zero, suc, ◌+◌, ◌<◌, ◌≤◌}
+use native.Mathlib.Decide.{ℕ_discrete}
 use native.Mathlib.Omega.{arith}
-use borrow.Author.Tests.{eq-eqb, ne_eqb, lt-ltb, le-ltb}
-use lib.Dec.{eqb, ltb, leb}
-use lib.ListN.{length, get_or, drop, set, replicate, length-replicate, get_or-replicate, length-set, drop_of_length-le}
-use lib.Seq.{drop-cons, get_or-set_same, get_or-set_other}
+use borrow.Author.Tests.{ne_eqb, lt-ltb, le-ltb}
+use lib.ListN.{length, get_or, set, replicate, length-replicate, get_or-replicate, length-set}
+use lib.Seq.{get_or-set_same, get_or-set_other}
 use Rattle.plan.specs.Spells.{variables_of}
-use Rattle.plan.specs.Tree.{partner_from, Own, empty, send, receive, set as setting, raise, leave, choose, repeat, sequence, flow, pick, scope, arm, kind, Act, act, Acts, none, more, Plan, size}
+use Rattle.plan.specs.Tree.{partner_from, Own, empty, send, receive, set as setting, raise, leave, choose, repeat, sequence, flow, pick, scope, arm, Acts, Plan}
 use Rattle.machine.specs.declared.Message.{Message}
 use Rattle.order.specs.declared.Order.{Order}
-use Rattle.fit.specs.Answering.{Exchange, Asking, AsksRow, FitsRow, UncheckedRow, KnowsOrder, message_at, Picks, fits_own, catches}
-use Rattle.machine.specs.Fit.{doing_of, awaits, Ready, ready_of, Live, live_from, Letter, fits, unchecked, fitting, fittings}
+use Rattle.fit.specs.Answering.{AsksRow, FitsRow, UncheckedRow, KnowsOrder, message_at, Picks, fits_own, catches}
+use Rattle.machine.specs.Fit.{doing_of, awaits, ready_of, live_from, Letter, fits, unchecked, fitting, fittings}
 use Rattle.order.specs.Lists.{each}
-use Rattle.order.specs.State.{is_live, mark_at}
+use Rattle.order.specs.State.{mark_at}
 use Rattle.fit.specs.Folds.{folded, lesser}
-use Rattle.fit.specs.Lines.{Line, lines_of, is_ready, ready_at, Stands, Tabled, Rows, Wholes}
-use Rattle.fit.specs.Receiving.{least_line, least_live, Slots, Across, Flagged, Lent, OpensRow, Least, LeastLetter, LeastLetters, LeastRow, LeastRows, LeastSlot, Leasts}
+use Rattle.fit.specs.Lines.{Line, lines_of, is_ready, ready_at}
+use Rattle.fit.specs.Receiving.{least_line, least_live, Flagged, Lent, OpensRow, Least, LeastLetter, LeastLetters, LeastRow, LeastRows, LeastSlot, Leasts}
 use Rattle.fit.proofs.Crossed.{Crossing, crossing-starts, crossing-again, crossing-done, slot-free}
 use Rattle.fit.proofs.FitReturns.{asks-asking}
-use Rattle.fit.proofs.Lines.{fold-append, fold-each, fold_same, fold-ready, size-short, Rowing, rowing-starts, rowing-again, rowing-done}
+use Rattle.fit.proofs.Lines.{fold-each, fold_same, fold-ready, size-short, Rowing, rowing-starts, rowing-again, rowing-done}
 use Rattle.fit.proofs.SearchReturns.{open-exchange, catch-open}
 
 one-fitting : (b : Bool) (u c : ℕ) → folded lesser (cond b (u ∷ []) []) c ≡ cond b (lesser u c) c

@@ -1,13 +1,13 @@
 -- The search finds a receive exactly where the message fits one; and what the contracts ask of a plan's flags holds of each accepted plan.
 -- Assumes nothing.
-use mathlib.Core.Path.{◌≡◌, refl, sym, ap, ◌∙◌}
-use mathlib.Core.Bool.{Bool, true, false, cond, ◌&&◌, ◌||◌}
+use mathlib.Core.Path.{◌≡◌, refl, sym, ◌∙◌}
+use mathlib.Core.Bool.{Bool, true, false, cond, ◌&&◌}
 use mathlib.Core.List.{List, [], ◌∷◌, ◌++◌}
-use Prim.Native.Nat.{ℕ, ◌+◌, ◌*◌, ◌<◌, ◌≤◌}
+use Prim.Native.Nat.{ℕ, ◌+◌, ◌<◌, ◌≤◌}
 use native.Mathlib.Omega.{arith}
 use borrow.Author.Tests.{leb-true, ltb-true, ne_eqb}
-use lib.Dec.{eqb, leb, ltb}
-use lib.ListN.{length, replicate, length-replicate}
+use lib.Dec.{leb, ltb}
+use lib.ListN.{length}
 use Rattle.plan.specs.Found.{found, among}
 use Rattle.plan.specs.Read.{read_plan}
 use Rattle.plan.specs.Spell.{spelling}
@@ -19,10 +19,11 @@ use Rattle.plan.proofs.Limits.{accepted-is-within}
 use Rattle.plan.proofs.Stores.{flagged-among}
 use Rattle.machine.specs.declared.Message.{Message}
 use Rattle.order.specs.declared.Order.{Order}
+use Rattle.std.specs.Prelude.{Option, None, Some}
 use Rattle.fit.specs.declared.Receiver.{Receiver}
 use Rattle.fit.specs.Answering.{Correlated}
-use Rattle.fit.specs.Finding.{first_of, or_else, first_receiver, is_nothing}
-use Rattle.machine.specs.Fit.{Ready, Live, live_from, fitting, fittings}
+use Rattle.fit.specs.Finding.{receiver, first_of, or_else, first_receiver, is_nothing}
+use Rattle.machine.specs.Fit.{Ready, Live, fitting, fittings}
 use Rattle.order.specs.Lists.{each, empties}
 
 -- the search finds nothing exactly where the message fits no open receive of a live order
@@ -30,10 +31,10 @@ empties-append : (l k : List ℕ) → empties (l ++ k) ≡ (empties l && empties
 empties-append [] k = refl
 empties-append (x ∷ l) k = refl
 
-nothing-else : (r s : Receiver) → is_nothing (or_else r s) ≡ (is_nothing r && is_nothing s)
+nothing-else : (r s : Option Receiver) → is_nothing (or_else r s) ≡ (is_nothing r && is_nothing s)
 unfolding is_nothing or_else
-nothing-else (Receiver.At i k) s = refl
-nothing-else Receiver.Nothing s = refl
+nothing-else (Some x) s = refl
+nothing-else None s = refl
 
 first-of-exactly : (p : Plan) (i : ℕ) (o : Order) (m : Message) (l : List Ready)
     → is_nothing (first_of p i o m l) ≡ empties (each (λ r. fitting p o m r.step) l)
@@ -43,7 +44,7 @@ first-of-exactly p i o m (r ∷ l) =
     by-test (first-of-exactly p i o m l) (empties (fitting p o m r.step)) ∙ sym (empties-append (fitting p o m r.step) _)
   where
     by-test : is_nothing (first_of p i o m l) ≡ empties (each (λ x. fitting p o m x.step) l) → (b : Bool)
-        → is_nothing (cond b (first_of p i o m l) (Receiver.At i r.activity)) ≡ (b && empties (each (λ x. fitting p o m x.step) l))
+        → is_nothing (cond b (first_of p i o m l) (receiver i r.activity)) ≡ (b && empties (each (λ x. fitting p o m x.step) l))
     by-test e true = e
     by-test e false = refl
 

@@ -8,19 +8,20 @@ use native.Mathlib.Nat.{add-zero}
 use native.Mathlib.Numerals.{add-one}
 use native.Mathlib.Omega.{arith}
 use borrow.Author.Tests.{eq-eqb, ne_eqb, lt-ltb, le-ltb}
-use lib.Dec.{eqb}
+use lib.Dec.{leb, eqb}
 use lib.ListN.{length, get_or, drop, set, drop_of_length-le}
 use lib.Seq.{drop-cons, get_or-drop, drop-drop, ext_get_or}
 use mir.Syntax.{w64}
 use mir.Val.{Fits}
+use Rattle.std.proofs.lemmas.Bool.Decides.{nat_tests}
 use Rattle.plan.specs.Tree.{Plan}
 use Rattle.machine.specs.declared.Message.{Message}
 use Rattle.order.specs.declared.Order.{Order}
-use Rattle.fit.specs.Answering.{Correlated, Exchange, asked_of, known_value, sixteenth, Knows, KnowsOrder, AsksRow, Asking, number_of, Numbers, message_at, Letters, Agrees, FitsRow, Costs, UncheckedRow}
+use Rattle.fit.specs.Answering.{Exchange, asked_of, known_value, sixteenth, Knows, KnowsOrder, AsksRow, Asking, number_of, Numbers, message_at, Letters, Agrees, FitsRow, Costs, UncheckedRow}
 use Rattle.machine.specs.Fit.{is_checked, agrees, fits, unchecked}
 use Rattle.machine.specs.State.{no_message}
 use Rattle.order.specs.State.{value_of}
-use Rattle.fit.proofs.Filled.{Filling, filling-starts, filling-again, filling-done}
+use Rattle.fit.proofs.Filled.{Filling, filling-again, filling-done}
 
 pub get_d_any : {A : Type 0} (l : List A) (i : ℕ) (d e : A) → i < length l → get_or l i d ≡ get_or l i e
 get_d_any [] i d e h = absurd (omega arith)
@@ -257,45 +258,34 @@ module _ (t : List ℕ) (k : ℕ) (asked letters : List ℕ) (j : ℕ) where
   pub fits-nothing : 64 ≤ j → FitsRow t k asked letters j false
   fits-nothing h = record { is = λ few p o a b vs c e. absurd (omega arith) }
 
-  pub fits-partner : (get_or letters (j * 8) 0 ≡ get_or t (k * 13 + 1) 0 → ⊥) → FitsRow t k asked letters j false
+-- what the message at place j says of itself is what row k asks for
+abbrev pub head_fits : (t : List ℕ) (k : ℕ) (letters : List ℕ) (j : ℕ) → Bool
+head_fits t k l j =
+    eqb (get_or l (j * 8) 0) (get_or t (k * 13 + 1) 0)
+    && (eqb (get_or l (j * 8 + 1) 0) (get_or t (k * 13 + 2) 0) && (eqb (get_or l (j * 8 + 2) 0) (get_or t (k * 13 + 3) 0) && leb (get_or l (j * 8 + 2) 0) 4))
+
+module _ {t : List ℕ} {k : ℕ} {asked letters : List ℕ} {j : ℕ} where
+  pub fits-values : head_fits t k letters j ≡ true → {r : Bool} → Agrees asked letters j (get_or letters (j * 8 + 2) 0) r → FitsRow t k asked letters j r
   unfolding fits message_at
-  fits-partner n = record { is = λ few p o a b vs c e. rw (ne_eqb (get_or letters (j * 8) 0) a (λ q. n (q ∙ sym e.partner))) }
+  fits-values h g = record {
+    is = λ few p o a b vs c e.
+        let same = g.is p o vs c in
+        let z = e.partner in
+        let y = e.operation in
+        let n = e.count in
+        grind (arith, nat_tests);
+  }
 
-  module _ (y : get_or letters (j * 8) 0 ≡ get_or t (k * 13 + 1) 0) where
-    pub fits-operation : (get_or letters (j * 8 + 1) 0 ≡ get_or t (k * 13 + 2) 0 → ⊥) → FitsRow t k asked letters j false
-    unfolding fits message_at
-    fits-operation n = record {
-      is = λ few p o a b vs c e.
-          rw (eq-eqb (get_or letters (j * 8) 0) a (y ∙ e.partner), ne_eqb (get_or letters (j * 8 + 1) 0) b (λ q. n (q ∙ sym e.operation)));
-    }
-
-    module _ (z : get_or letters (j * 8 + 1) 0 ≡ get_or t (k * 13 + 2) 0) where
-      pub fits_count : (get_or letters (j * 8 + 2) 0 ≡ get_or t (k * 13 + 3) 0 → ⊥) → FitsRow t k asked letters j false
-      unfolding fits message_at
-      fits_count n = record {
-        is = λ few p o a b vs c e.
-            rw (
-              eq-eqb (get_or letters (j * 8) 0) a (y ∙ e.partner),
-              eq-eqb (get_or letters (j * 8 + 1) 0) b (z ∙ e.operation),
-              ne_eqb (get_or letters (j * 8 + 2) 0) (length vs) (λ q. n (q ∙ sym e.count)),
-            );
-      }
-
-      module _ (n : get_or letters (j * 8 + 2) 0 ≡ get_or t (k * 13 + 3) 0) where
-        pub fits-many : 4 < get_or letters (j * 8 + 2) 0 → FitsRow t k asked letters j false
-        fits-many h = record { is = λ few p o a b vs c e. absurd (omega (arith, c.few, n ∙ e.count)) }
-
-        pub fits-values : {r : Bool} → Agrees asked letters j (get_or letters (j * 8 + 2) 0) r → FitsRow t k asked letters j r
-        unfolding fits message_at
-        fits-values g = record {
-          is = λ few p o a b vs c e.
-              rw (
-                eq-eqb (get_or letters (j * 8) 0) a (y ∙ e.partner),
-                eq-eqb (get_or letters (j * 8 + 1) 0) b (z ∙ e.operation),
-                eq-eqb (get_or letters (j * 8 + 2) 0) (length vs) (n ∙ e.count),
-              )
-              (g.is p o vs c (sym (n ∙ e.count)));
-        }
+  pub fits-other : head_fits t k letters j ≡ false → FitsRow t k asked letters j false
+  unfolding fits message_at
+  fits-other h = record {
+    is = λ few p o a b vs c e.
+        let z = e.partner in
+        let y = e.operation in
+        let n = e.count in
+        let q = c.few in
+        grind (arith, nat_tests);
+  }
 
 -- the loop of `unchecked_at`: n of the places passed are unchecked
 pub record Counting (t : List ℕ) (k : ℕ) (asked : List ℕ) (count n i : ℕ) : Type 0 where

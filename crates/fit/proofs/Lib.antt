@@ -8,3 +8,4 @@ pub mod FirstFits
 pub mod Lines
 pub mod Crossed
 pub mod Fewest
+pub mod Sets

@@ -15,13 +15,13 @@ use Rattle.plan.specs.Read.{later_of}
 use Rattle.plan.specs.Spells.{Spells, SpellsAll, SpellsPlan, variables_of}
 use Rattle.plan.specs.Tree.{to_partner, to_held, from_partner, from_asking, Own, empty, send, receive, set, raise, leave, choose, repeat, sequence, flow, pick, scope, arm, is_pick, has_undo, numbers_of, Act, act, Acts, none, more, Plan, size, sizes, count}
 use Rattle.plan.specs.Spell.{spelling, gaps_of, later, passing}
-use Rattle.plan.specs.Within.{from1, scope_parts, numbers_within, ascending, levels_below, variables_within, exchange_within, own_within, act_within, acts_within, plan_within}
+use Rattle.plan.specs.Within.{from1, scope_parts, numbers_within, ascending, levels_below, exchange_within, own_within, act_within, acts_within, plan_within}
 use Rattle.plan.proofs.Accepts.{both}
 use Rattle.plan.proofs.ByKind.{kind-pick}
 use Rattle.order.specs.declared.Order.{Order}
 use Rattle.fit.specs.Answering.{open_pick, arms_from}
 use Rattle.machine.specs.Fit.{doing_of, awaits, Ready, ready_in, ready_among, ready_of, Letter}
-use Rattle.order.specs.Lists.{each, only, some}
+use Rattle.order.specs.Lists.{each, only}
 use Rattle.order.specs.State.{active}
 use Rattle.fit.proofs.Finds.{ends-in, size-some}
 use Rattle.fit.specs.Folds.{folded}

@@ -1,24 +1,24 @@
 -- The returns of the functions that ask whether a row is open and takes a message. Assumes nothing.
 use mathlib.Core.Path.{◌≡◌, refl, sym, ap, ◌∙◌}
-use mathlib.Core.Bool.{Bool, true, false, cond, not, ◌&&◌, ◌||◌, false≢true}
+use mathlib.Core.Bool.{Bool, true, false, cond, ◌&&◌, ◌||◌, false≢true}
 use mathlib.Core.List.{List, [], ◌∷◌}
 use Prim.Native.Nat.{ℕ, zero, suc, ◌+◌, ◌*◌, ◌-◌, ◌<◌, ◌≤◌}
-use native.Mathlib.Numerals.{add-one, sub-one}
+use native.Mathlib.Numerals.{sub-one}
 use native.Mathlib.Omega.{arith}
 use borrow.Author.Tests.{eq-eqb, ne_eqb, lt-ltb, le-ltb}
 use lib.Dec.{eqb, ltb}
-use lib.ListN.{length, get_or, set as set_at}
-use Rattle.plan.specs.Spells.{variables_of, Row, Spells}
+use lib.ListN.{get_or, set as set_at}
+use Rattle.plan.specs.Spells.{variables_of, Spells}
 use Rattle.plan.specs.Table.{row_of}
 use Rattle.plan.specs.Tree.{to_partner, to_held, from_partner, from_asking, Own, empty, send, receive, set, raise, leave, choose, repeat, sequence, flow, pick, scope, arm, kind, numbers_of, Plan}
 use Rattle.plan.proofs.TableSpells.{row_count, row-variables}
 use Rattle.machine.specs.declared.Message.{Message}
 use Rattle.order.specs.declared.Order.{Order}
 use Rattle.fit.specs.Answering.{Exchange, AsksRow, FitsRow, message_at, open_pick, arms_from, around_from, PicksRow, Picks, ArmAt, ArmsRow, fits_own, catches}
-use Rattle.machine.specs.Fit.{awaits, Letter, fits}
-use Rattle.order.specs.State.{active, is_live, mark_at}
+use Rattle.machine.specs.Fit.{fits}
+use Rattle.order.specs.State.{is_live}
 use Rattle.fit.specs.Lines.{Line, is_ready, Stands}
-use Rattle.fit.specs.Receiving.{Lent, receives, OpensRow, TakesRow}
+use Rattle.fit.specs.Receiving.{receives, OpensRow, TakesRow}
 use Rattle.fit.proofs.Filled.{Filling, filling-again, filling-passes, filling-done}
 use Rattle.fit.proofs.FitReturns.{asks-asking}
 use Rattle.fit.proofs.OwnKinds.{awaits-kind}

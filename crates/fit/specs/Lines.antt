@@ -6,7 +6,7 @@ use Rattle.plan.specs.Tree.{Own, is_pick, has_undo, numbers_of, Act, act, Acts, 
 use Rattle.plan.specs.Within.{numbers_within, plan_within}
 use Rattle.order.specs.declared.Order.{Order}
 use Rattle.fit.specs.Answering.{arms_from}
-use Rattle.machine.specs.Fit.{Doing, doing_of, awaits, Ready, Letter}
+use Rattle.machine.specs.Fit.{doing_of, awaits, Ready, Letter}
 use Rattle.order.specs.State.{active}
 use Rattle.fit.specs.Folds.{folded}
 

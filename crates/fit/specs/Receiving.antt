@@ -6,9 +6,10 @@ use Rattle.plan.specs.Tree.{Own, kind, Plan}
 use Rattle.machine.specs.declared.Message.{Message}
 use Rattle.order.specs.declared.Order.{Order}
 use Rattle.fit.specs.Answering.{Correlated, Exchange, Knows, Asking, UncheckedRow, message_at, Picks, catches}
-use Rattle.fit.specs.Finding.{first_of, or_else, first_receiver}
+use Rattle.fit.specs.Finding.{receiver, first_of, or_else, first_receiver}
 use Rattle.machine.specs.Fit.{ready_of, Live, live_from, Letter, fits, unchecked as unchecked_in, fitting, fittings}
 use Rattle.order.specs.State.{is_live}
+use Rattle.std.specs.Prelude.{Option, None}
 use Rattle.fit.specs.declared.Receiver.{Receiver}
 use Rattle.fit.specs.Folds.{folded, lesser}
 use Rattle.fit.specs.Lines.{Line, is_ready, Stands, Tabled, Rows, Wholes}
@@ -21,10 +22,10 @@ unfoldable pub least_live : Message → Plan → List Letter → Live → ℕ �
 least_live m p l x c = folded (λ r. folded lesser (fitting p x.order m r.step)) x.ready c
 
 -- the first open receive that the message fits, after one line more and after one live order more
-unfoldable pub catch_line : (slot : ℕ) → Message → Order → Plan → List Letter → Line → Receiver → Receiver
-catch_line i m o p l x c = or_else c (cond (catches p o m x.own x.arms x.activity) (Receiver.At i x.activity) Receiver.Nothing)
+unfoldable pub catch_line : (slot : ℕ) → Message → Order → Plan → List Letter → Line → Option Receiver → Option Receiver
+catch_line i m o p l x c = or_else c (cond (catches p o m x.own x.arms x.activity) (receiver i x.activity) None)
 
-unfoldable pub catch_live : Message → Plan → List Letter → Live → Receiver → Receiver
+unfoldable pub catch_live : Message → Plan → List Letter → Live → Option Receiver → Option Receiver
 catch_live m p l x c = or_else c (first_of p x.slot x.order m x.ready)
 
 -- r is what f makes of the state c at one slot
@@ -62,7 +63,7 @@ pub record TakesRow (t picks marks known : List ℕ) (k : ℕ) (letters : List �
       → r ≡ catches p o (message_at letters j) x.own x.arms x.activity
 
 -- r is the first open receive that the message at place j fits
-pub record Receives (t flags picks : List ℕ) (orders : List Order) (activities : ℕ) (letters : List ℕ) (j : ℕ) (r : Receiver) : Type 0 where
+pub record Receives (t flags picks : List ℕ) (orders : List Order) (activities : ℕ) (letters : List ℕ) (j : ℕ) (r : Option Receiver) : Type 0 where
   pub is : j < 64 → (p : Plan) → Correlated p flags → Picks t picks → Tabled p t activities → r ≡ first_receiver p (live_from p 0 orders) (message_at letters j)
 
 -- the fewest unchecked places of the open receives that a message fits

@@ -8,6 +8,7 @@ use order::Order;
 use plan::table::Table;
 
 // The fewest for the message at place j, after the receive or arm in row k.
+#[tactic(auto, using(crate::proofs::Sets::least_letter))]
 fn least_letter(
     table: &Table,
     k: usize,
@@ -20,16 +21,15 @@ fn least_letter(
     requires { (k < 256) × (j < 64) }
     ensures { LeastLetter table.now k asked.now letters.now j unchecked least result }
 {
-    if fits_at(table, k, asked, letters, j) {
-        if unchecked < least {
-            return unchecked;
-        }
-        return least;
+    if fits_at(table, k, asked, letters, j) && unchecked < least {
+        unchecked
+    } else {
+        least
     }
-    least
 }
 
 // For each message that waits, after the receive or arm in row k.
+#[tactic(auto, using(crate::proofs::Sets::least_letters))]
 fn least_letters(
     table: &Table,
     known: &[u64; 16],
@@ -43,14 +43,13 @@ fn least_letters(
 {
     let asked = asked_at(table, known, k);
     let unchecked = unchecked_at(table, k, &asked);
-    let mut j: usize = 0;
-    while j < waiting {
+    for j in 0..waiting {
         least[j] = least_letter(table, k, &asked, unchecked, letters, j, least[j]);
-        j += 1;
     }
 }
 
 // After row k: whether it is open is asked before any message is looked at.
+#[tactic(auto, using(crate::proofs::Sets::least_row))]
 fn least_row(
     table: &Table,
     picks: &[usize; 256],
@@ -66,11 +65,11 @@ fn least_row(
 {
     if open_at(table, picks, marks, k) {
         least_letters(table, known, k, letters, waiting, least);
-        return;
     }
 }
 
 // After all rows of an order.
+#[tactic(auto, using(crate::proofs::Sets::least_rows))]
 fn least_rows(
     table: &Table,
     picks: &[usize; 256],
@@ -84,14 +83,13 @@ fn least_rows(
     requires { (activities ≤ 256) × (waiting ≤ 64) }
     ensures { LeastRows table.now picks.now marks.now known.now activities letters.now waiting least.old least.new }
 {
-    let mut k: usize = 0;
-    while k < activities {
+    for k in 0..activities {
         least_row(table, picks, marks, known, k, letters, waiting, least);
-        k += 1;
     }
 }
 
 // After the order in a slot.
+#[tactic(auto, using(crate::proofs::Sets::least_slot))]
 pub fn least_slot(
     table: &Table,
     flags: &[u8; 16],
@@ -104,13 +102,7 @@ pub fn least_slot(
 )
     ensures { LeastSlot table.now flags.now picks.now order activities letters.now waiting least.old least.new }
 {
-    if 256 < activities {
-        return;
-    }
-    if 64 < waiting {
-        return;
-    }
-    if order.root == 0 {
+    if 256 < activities || 64 < waiting || order.root == 0 {
         return;
     }
     let known = known_of(flags, order);

@@ -7,9 +7,9 @@ pub mod least;
 pub mod letters;
 pub mod search;
 
-// An open receive, by the slot of its order and its activity, or none.
+// An open receive, by the slot of its order and its activity.
 #[derive(Clone, Copy)]
-pub enum Receiver {
-    At { slot: usize, activity: usize },
-    Nothing,
+pub struct Receiver {
+    pub slot: usize,
+    pub activity: usize,
 }

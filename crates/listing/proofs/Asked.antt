@@ -1,39 +1,34 @@
 -- The returns of the functions that write a window. Assumes nothing.
 use mathlib.Core.Path.{◌≡◌, refl, sym, ap, ◌∙◌, subst}
-use mathlib.Core.Bool.{Bool, true, false, cond}
-use mathlib.Core.List.{List, [], ◌∷◌, map}
-use Prim.Native.Nat.{ℕ, zero, suc, ◌+◌, ◌-◌, ◌<◌, ◌≤◌}
+use mathlib.Core.Bool.{Bool, true, false}
+use mathlib.Core.List.{List}
+use Prim.Native.Nat.{ℕ, suc, ◌+◌, ◌-◌, ◌<◌, ◌≤◌}
 use native.Mathlib.Decide.{dec_lt}
 use native.Mathlib.Omega.{arith}
-use native.Mathlib.Numerals.{add-one}
 use borrow.Author.Tests.{lt-ltb, le-ltb}
 use lib.ListN.{length, get_or, take, drop, set, length-drop, length-set}
 use lib.Seq.{drop-drop, get_or-drop}
-use Rattle.plan.specs.declared.Answer.{Answer}
-use Rattle.plan.specs.declared.Answer.TheVariants.{Accepted}
-use Rattle.plan.specs.Answers.{answer_of, table_for, flags_for}
-use Rattle.plan.specs.Tree.{Plan}
+use Rattle.std.specs.Prelude.{Result, Err}
+use Rattle.plan.specs.declared.Accepted.{Accepted}
+use Rattle.plan.specs.declared.Refusal.{Refusal}
+use Rattle.plan.specs.Answers.{answer_of}
 use Rattle.order.specs.declared.Order.{Order}
-use Rattle.order.specs.Acting.{started_order}
-use Rattle.order.specs.Answering.{Spelled, StartsOrder as Begun}
+use Rattle.order.specs.Answering.{StartsOrder as Begun}
 use Rattle.machine.specs.declared.State.{State}
-use Rattle.machine.specs.Fit.{Letter}
-use Rattle.machine.specs.Limits.{plan_in, by}
+use Rattle.machine.specs.Limits.{plan_in}
 use Rattle.machine.specs.Offer.{Offer, offering, Offers, offers_of}
 use Rattle.machine.specs.State.{letters}
 use Rattle.machine.proofs.Called.{answer-no}
 use Rattle.fit.specs.Answering.{KnowsOrder, Letters, Picks}
 use Rattle.fit.specs.Folds.{folded, lesser}
-use Rattle.fit.specs.Lines.{Line, Rows, Wholes}
+use Rattle.fit.specs.Lines.{Rows, Wholes}
 use Rattle.fit.specs.Receiving.{Slots, Across, Leasts}
-use Rattle.sight.specs.declared.Pointer.{Pointer}
 use Rattle.sight.specs.declared.Sight.{Sight}
 use Rattle.sight.specs.Sights.{seen, unseen, Unseen, Marked, Remembers, Opening, cut_line, offer_line}
-use Rattle.offer.specs.Acts.{line_offers, act_line, act_live}
+use Rattle.offer.specs.Acts.{act_line, act_live}
 use Rattle.offer.specs.Having.{Has}
 use Rattle.offer.specs.Seeing.{Informed, StartsAt, StartsLetter, StartsOrder}
 use Rattle.offer.proofs.Answered.{Tells-of, tells-of, acts-by, mailed}
-use Rattle.offer.proofs.Having.{has_room}
 use Rattle.offer.proofs.OrderSeen.{acts-live, line-seen}
 use Rattle.listing.specs.declared.Listed.{Listed}
 use Rattle.listing.specs.Listing.{offer_number, listed_out, listed_in, Listing, holding, written, listing, Asks, Lists, RowOf, LetterOf, ListsBy, ListsAll}
@@ -204,7 +199,7 @@ module _ {t flags : List ℕ} {n : ℕ} {s : State} {first skip at : ℕ} {out v
   list_written = ap (λ (x : Listing). x.out) is_all ∙ (list-out (offers_of h.plan s).offered first 0 out (omega arith) ∙ rw h.planned.is)
 
 -- `list`: a state that earns 17
-module _ (s : State) {a : Answer} (e : a ≡ answer_of (plan_in s)) {number place : ℕ} (o : a ≡ Answer.Refused number place) where
+module _ (s : State) {a : Result Accepted Refusal} (e : a ≡ answer_of (plan_in s)) {bad : Refusal} (o : a ≡ Err bad) where
   pub list-unplanned : (first room : ℕ) → ◌≡◌ {A = Listed} (record { refusal = 17; many = 0 }) (listed_in first s room)
   unfolding listed_in
   list-unplanned first room = rw (answer-no (plan_in s) e o)

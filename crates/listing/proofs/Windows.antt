@@ -1,14 +1,13 @@
 -- Writing a window offer by offer: it composes, what one that was found and one that was not do to it, and what stands in the buffer at the end.
 -- Assumes nothing.
-use mathlib.Core.Path.{◌≡◌, refl, sym, ap, ◌∙◌}
-use mathlib.Core.Bool.{Bool, true, false, cond}
-use mathlib.Core.List.{List, [], ◌∷◌, ◌++◌, map}
+use mathlib.Core.Path.{◌≡◌, refl, ap, ◌∙◌}
+use mathlib.Core.List.{List, [], ◌∷◌, map}
 use Prim.Native.Nat.{ℕ, zero, suc, ◌+◌, ◌-◌, ◌<◌, ◌≤◌}
 use native.Mathlib.Decide.{dec_lt}
 use native.Mathlib.Omega.{arith}
 use borrow.Author.Tests.{lt-ltb, le-ltb, ne_eqb}
-use lib.ListN.{length, get_or, take, drop, set, length-set, drop_of_length-le}
-use Rattle.machine.specs.Offer.{Offer, Offers, no_offers, together}
+use lib.ListN.{length, get_or, take, drop, set, length-set}
+use Rattle.machine.specs.Offer.{Offer}
 use Rattle.answers.specs.Numbering.{filled}
 use Rattle.answers.proofs.Filling.{set_beyond}
 use Rattle.fit.specs.Folds.{folded}

@@ -1,6 +1,6 @@
 -- Meaning: a window of the offer, in a lent buffer. Only `listed_out` and `listed_in`, which the contract of `list` names, have to be believed: the rest is glue.
 -- Assumes nothing: these are definitions.
-use Rattle.std.specs.Prelude.{ℕ, ◌+◌, ◌-◌, ◌<◌, Bool, cond, List, [], map, ◌≡◌, eqb, ltb, length, take, drop, set}
+use Rattle.std.specs.Prelude.{ℕ, ◌+◌, ◌-◌, Bool, cond, List, [], map, ◌≡◌, eqb, ltb, length, take, drop, set}
 use Rattle.plan.specs.Tree.{Plan}
 use Rattle.order.specs.declared.End.TheVariants.{None}
 use Rattle.order.specs.declared.Order.{Order}

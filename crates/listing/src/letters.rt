@@ -33,9 +33,8 @@ fn list_letter(
 {
     let mut skip = first;
     let mut c = first as usize;
-    let mut at = from;
-    while at < out.len() {
-        let s = letter_sight(
+    for at in from..out.len() {
+        let p = letter_sight(
             table,
             flags,
             picks,
@@ -47,21 +46,22 @@ fn list_letter(
             letters,
             j,
             nothing_seen(c),
-        );
-        let p = s.pointer;
-        if p.found {
-            put(out, at, pointer_number(p));
-            skip = 0;
-            c += 1;
-            at += 1;
-            continue;
+        )
+        .pointer;
+        if !p.found {
+            return Window {
+                skip: lesser_of(p.left, skip),
+                at,
+            };
         }
-        return Window {
-            skip: lesser_of(p.left, skip),
-            at,
-        };
+        put(out, at, pointer_number(p));
+        skip = 0;
+        c += 1;
     }
-    Window { skip, at }
+    Window {
+        skip,
+        at: from.max(out.len()),
+    }
 }
 
 // What the messages that wait add.
@@ -83,13 +83,11 @@ fn list_letters(
     ensures { Starts listing table.now flags.now picks.now orders marks.now known.now free activities letters.now waiting (holding w.skip w.at out.old) (holding result.skip result.at out.new) }
 {
     let mut c = w;
-    let mut j: usize = 0;
-    while j < waiting {
+    for j in 0..waiting {
         c = list_letter(
             table, flags, picks, orders, marks, known, free, activities, letters, j, c.skip, c.at,
             out,
         );
-        j += 1;
     }
     c
 }

@@ -55,8 +55,7 @@ pub fn list(state: State, first: u32, out: &mut [u64]) -> Listed
 {
     let mut table = [0u32; LENGTH];
     let mut flags = [0u8; 16];
-    let a = limits::planned(state, &mut table, &mut flags);
-    let Ok(Accepted { activities, .. }) = a else {
+    let Ok(Accepted { activities, .. }) = limits::planned(state, &mut table, &mut flags) else {
         return Listed {
             refusal: 17,
             many: 0,

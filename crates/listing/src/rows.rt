@@ -40,9 +40,10 @@ pub(crate) fn lesser_of(left: usize, skip: u32) -> u32
     ensures { result ≡ lesser left skip }
 {
     if left < skip as usize {
-        return left as u32;
+        left as u32
+    } else {
+        skip
     }
-    skip
 }
 
 // What row k adds: it is asked for one choice after the other, from the first that is wanted on.
@@ -69,9 +70,8 @@ fn list_row(
 {
     let mut skip = first;
     let mut c = first as usize;
-    let mut at = from;
-    while at < out.len() {
-        let s = row_sight(
+    for at in from..out.len() {
+        let p = row_sight(
             table,
             picks,
             marks,
@@ -87,21 +87,22 @@ fn list_row(
             waiting,
             least,
             nothing_seen(c),
-        );
-        let p = s.pointer;
-        if p.found {
-            put(out, at, pointer_number(p));
-            skip = 0;
-            c += 1;
-            at += 1;
-            continue;
+        )
+        .pointer;
+        if !p.found {
+            return Window {
+                skip: lesser_of(p.left, skip),
+                at,
+            };
         }
-        return Window {
-            skip: lesser_of(p.left, skip),
-            at,
-        };
+        put(out, at, pointer_number(p));
+        skip = 0;
+        c += 1;
     }
-    Window { skip, at }
+    Window {
+        skip,
+        at: from.max(out.len()),
+    }
 }
 
 // What all rows of an order add.
@@ -126,13 +127,11 @@ fn list_rows(
     ensures { Wholes table.now activities (Opening table.now picks.now marks.now known.now bound.now values.now parts.now kept letters.now waiting least.now) (act_line listing cutting waiting slot) (holding w.skip w.at out.old) (holding result.skip result.at out.new) }
 {
     let mut c = w;
-    let mut k: usize = 0;
-    while k < activities {
+    for k in 0..activities {
         c = list_row(
             table, picks, marks, known, bound, values, parts, kept, slot, k, cutting, letters,
             waiting, least, c.skip, c.at, out,
         );
-        k += 1;
     }
     c
 }

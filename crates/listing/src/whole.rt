@@ -29,31 +29,23 @@ fn list_in(
     requires { waiting ≤ 64 }
     ensures { ListsBy table.now flags.now picks.now orders activities letters.now waiting (holding first 0 out.old) (holding result.skip result.at out.new) }
 {
-    let mut least = [5usize; 64];
-    let mut i: usize = 0;
-    while i < 16 {
-        if orders[i].root == 0 {
-            i += 1;
+    let mut least = [5; 64];
+    for o in &orders {
+        if o.root == 0 {
             continue;
         }
-        let o = orders[i];
         least_slot(
-            table, flags, picks, o, activities, letters, waiting, &mut least,
+            table, flags, picks, *o, activities, letters, waiting, &mut least,
         );
-        i += 1;
     }
     let mut part = Window { skip: first, at: 0 };
-    let mut slot: usize = 0;
-    while slot < 16 {
-        if orders[slot].root == 0 {
-            slot += 1;
+    for (slot, o) in orders.iter().enumerate() {
+        if o.root == 0 {
             continue;
         }
-        let o = orders[slot];
         part = list_slot(
-            table, flags, picks, o, slot, activities, letters, waiting, &least, part, out,
+            table, flags, picks, *o, slot, activities, letters, waiting, &least, part, out,
         );
-        slot += 1;
     }
     let order = started_order(table);
     list_starts(
@@ -73,15 +65,13 @@ pub(crate) fn list_of(
     requires { state.waiting ≤ 64 }
     ensures { ListsAll table.now flags.now state activities (holding first 0 out.old) (holding result.skip result.at out.new) }
 {
-    let orders = state.orders;
-    let messages = state.messages;
-    let letters = letters_of(messages, state.waiting);
+    let letters = letters_of(state.messages, state.waiting);
     let picks = picks_of(table);
     list_in(
         table,
         flags,
         &picks,
-        orders,
+        state.orders,
         activities,
         &letters,
         state.waiting,

@@ -1,10 +1,11 @@
 -- Numbers copied into an array with zeros behind them: the loops that do it, and what is made by them. Assumes nothing.
 use mathlib.Core.Path.{◌≡◌, refl, sym, ap, ◌∙◌}
 use mathlib.Core.List.{List, [], ◌∷◌, ◌++◌, append_assoc}
-use Prim.Native.Nat.{ℕ, zero, suc, ◌+◌, ◌-◌, ◌<◌, ◌≤◌}
+use Prim.Native.Nat.{ℕ, suc, ◌+◌, ◌-◌, ◌<◌, ◌≤◌}
 use native.Mathlib.Numerals.{add-one}
 use native.Mathlib.Omega.{arith}
 use lib.ListN.{length, get_or, take, drop, set, replicate, length-append}
+use Rattle.std.proofs.lemmas.List.{drop-replicate}
 use lib.Seq.{take-suc, take_all, length-take-le, set_at}
 use Rattle.machine.specs.declared.Message.{Message}
 use Rattle.order.specs.declared.Order.{Order}
@@ -52,6 +53,10 @@ module _ {n : ℕ} {l out : List ℕ} {end i : ℕ} (a : Copied n l out end i) w
 
 pub copied-whole : {n : ℕ} {l out : List ℕ} {i : ℕ} → Copied n l out (length l) i → length l ≤ i → out ≡ stored n l
 copied-whole {n} {l} {out} {i} a h = a.is ∙ ap (stored n) (take_all i l h)
+
+-- numbers copied over the front of an array of zeros
+pub copied_front : (n : ℕ) (l : List ℕ) {front all : List ℕ} → front ≡ l → all ≡ replicate n 0 → front ++ drop (length l) all ≡ stored n l
+copied_front n l e z = rw (e, z) (ap (λ (r : List ℕ). l ++ r) (drop-replicate (length l) n 0))
 
 -- `no_order`, `no_message`
 pub no-order-is : ◌≡◌ {A = Order}

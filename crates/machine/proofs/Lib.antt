@@ -4,3 +4,4 @@ pub mod Moved
 mod Partners
 mod Ruled
 pub mod Whole
+pub mod Tests

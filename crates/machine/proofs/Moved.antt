@@ -1,13 +1,13 @@
 -- The messages that wait: the loop that closes a gap, the search for one that is to be collected, and the returns of post and collect. Assumes nothing.
 use mathlib.Core.Path.{◌≡◌, refl, sym, ap, ◌∙◌}
-use mathlib.Core.Bool.{Bool, true, false, cond, not, ◌&&◌, ◌||◌}
+use mathlib.Core.Bool.{Bool, true, false, cond, not}
 use mathlib.Core.List.{List, [], ◌∷◌, ◌++◌, append_assoc}
 use Prim.Native.Nat.{ℕ, zero, suc, ◌+◌, ◌-◌, ◌<◌, ◌≤◌}
 use native.Mathlib.Numerals.{add-one}
 use native.Mathlib.Omega.{arith}
 use borrow.Author.Tests.{lt-ltb, le-ltb, le-leb, lt-leb, ltb-true, leb-true, not-true, not-false}
 use lib.Dec.{ltb, leb, eqb}
-use lib.ListN.{length, get_or, take, drop, set, replicate, length-append, length-drop, take-append-drop, drop_of_length-le}
+use lib.ListN.{length, get_or, take, drop, set, length-append, length-drop, take-append-drop, drop_of_length-le}
 use lib.Seq.{take-suc, take_all, length-take-le, set_at, take_at, drop-cons, drop-length, get_or-append-add, get_or-drop, get_or-take}
 use Rattle.plan.specs.Found.{among}
 use Rattle.plan.specs.Tree.{Plan}
@@ -18,7 +18,7 @@ use Rattle.machine.specs.declared.Posted.{Posted}
 use Rattle.machine.specs.declared.Collected.{Collected}
 use Rattle.machine.specs.Heard.{Heard}
 use Rattle.order.specs.Lists.{every}
-use Rattle.machine.specs.State.{no_message, with_messages, adding, removing, letters}
+use Rattle.machine.specs.State.{no_message, with_messages, adding, removing}
 use Rattle.machine.specs.Limits.{exchanged, message_in_limits, order_in_limits, in_limits}
 use Rattle.machine.specs.Calls.{trimmed, post_by, partners_of, foreign, handing, collect_by}
 use Rattle.machine.specs.Planned.{added_to, taken_from, Adds, Removes}

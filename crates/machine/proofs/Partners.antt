@@ -1,6 +1,6 @@
 -- The table of a plan has a flag for exactly the partners that the plan receives on. Assumes nothing.
 use mathlib.Core.Path.{◌≡◌, refl, sym, ap, ◌∙◌}
-use mathlib.Core.Bool.{Bool, true, false, cond, ◌&&◌, ◌||◌}
+use mathlib.Core.Bool.{Bool, true, false, cond, ◌||◌}
 use mathlib.Core.List.{List, [], ◌∷◌, ◌++◌, append-nil}
 use Prim.Native.Nat.{ℕ, zero, suc, ◌+◌, ◌*◌, ◌<◌, ◌≤◌}
 use native.Mathlib.Decide.{ℕ_discrete}
@@ -10,8 +10,8 @@ use lib.Dec.{leb, eqb}
 use lib.ListN.{length, get_or, replicate, length-replicate, get_or-replicate}
 use lib.ListN as lists
 use lib.Seq.{get_or-set_same, get_or-set_other}
-use Rattle.plan.specs.Found.{Found, found, among}
-use Rattle.plan.specs.Read.{read_plan, start_form}
+use Rattle.plan.specs.Found.{found, among}
+use Rattle.plan.specs.Read.{read_plan}
 use Rattle.plan.specs.Spell.{spelling, operation_code, gaps_of, later, passing}
 use Rattle.plan.specs.Store.{store}
 use Rattle.plan.specs.Table.{row, row_of, noted, put_row, nodes_of, put_node, put_nodes, put_own_nodes, put_own, put_close, put, put_all, blank_table, body_place, table_over, table_of}

@@ -1,5 +1,5 @@
 -- Meaning: the calls on a state: post, collect, drop, the offer shown, step and run, each with its refusals in order. Assumes nothing: these are definitions.
-use Rattle.std.specs.Prelude.{ℕ, zero, suc, ◌+◌, ◌-◌, Bool, true, false, cond, not, ◌&&◌, ◌||◌, List, [], ◌∷◌, ◌++◌, length, get_or, take, drop, leb, ltb, eqb}
+use Rattle.std.specs.Prelude.{ℕ, zero, suc, ◌+◌, true, false, cond, not, List, [], ◌∷◌, ◌++◌, length, get_or, take, leb, ltb, eqb}
 use Rattle.plan.specs.Found.{Found, refused, found, among}
 use Rattle.plan.specs.Read.{read_plan}
 use Rattle.plan.specs.Tree.{To, reply_of, partner_from, Act, act, Acts, none, more, Plan, size}
@@ -15,12 +15,11 @@ use Rattle.order.specs.declared.End.{End}
 use Rattle.order.specs.declared.End.TheVariants.{None, Well, Handled, Failed, Left}
 use Rattle.order.specs.Lists.{stored, empties}
 use Rattle.order.specs.Taking.{bind_all, storing}
-use Rattle.order.specs.State.{is_live, no_order, binding, value_of}
+use Rattle.order.specs.State.{is_live, no_order, value_of}
 use Rattle.machine.specs.State.{no_message, fresh, unplanned, letters, with_order, adding, removing}
 use Rattle.machine.specs.Limits.{exchanged, plan_in, by}
 use Rattle.order.specs.Event.{Event, started}
-use Rattle.order.specs.Begin.{Begun}
-use Rattle.order.specs.Acting.{partner_to, may_send, Moved, begun_order, started_order}
+use Rattle.order.specs.Acting.{partner_to, may_send, begun_order, started_order}
 use Rattle.order.specs.Judging.{step_order}
 use Rattle.machine.specs.Fit.{Doing, no_step, sends, takes, moves, cuts, closes, doing_of}
 use Rattle.machine.specs.Offer.{Offer, Offers, offers_of}

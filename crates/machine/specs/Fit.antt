@@ -1,10 +1,9 @@
 -- Meaning: which messages fit an open receive, and which may start an order. Assumes nothing: these are definitions.
-use Rattle.std.specs.Prelude.{ℕ, suc, ◌+◌, Bool, true, false, cond, not, ◌&&◌, ◌||◌, List, [], ◌∷◌, ◌++◌, length, get_or, drop, leb, eqb}
+use Rattle.std.specs.Prelude.{ℕ, suc, ◌+◌, Bool, true, false, cond, not, ◌&&◌, ◌||◌, List, [], ◌∷◌, length, get_or, drop, leb, eqb}
 use Rattle.plan.specs.Found.{among}
 use Rattle.plan.specs.Tree.{partner_from, Plan}
 use Rattle.machine.specs.declared.Message.{Message}
 use Rattle.order.specs.declared.Order.{Order}
-use Rattle.machine.specs.declared.State.{State}
 use Rattle.order.specs.Lists.{every, each}
 use Rattle.order.specs.State.{is_bound, value_of, is_live}
 pub use Rattle.order.specs.Awaited.{Doing, no_step, sends, takes, moves, cuts, closes, Ready}

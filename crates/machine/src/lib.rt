@@ -103,23 +103,16 @@ pub fn load(s: &[u8]) -> Loaded
 {
     let mut table = [0u32; LENGTH];
     let mut flags = [0u8; 16];
-    let a = plan::accept_over(s, &mut table, &mut flags);
-    match a {
-        Err(Refusal { number, place }) => {
-            let state = made::fresh_state(&s[..0]);
-            Loaded {
-                refusal: number,
-                place,
-                state,
-            }
-        }
-        Ok(_) => {
-            let state = made::fresh_state(s);
-            Loaded {
-                refusal: 0,
-                place: 0,
-                state,
-            }
-        }
+    match plan::accept_over(s, &mut table, &mut flags) {
+        Err(Refusal { number, place }) => Loaded {
+            refusal: number,
+            place,
+            state: made::fresh_state(&s[..0]),
+        },
+        Ok(_) => Loaded {
+            refusal: 0,
+            place: 0,
+            state: made::fresh_state(s),
+        },
     }
 }

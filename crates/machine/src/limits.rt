@@ -15,100 +15,61 @@ use plan::table::{LENGTH, Table};
 use plan::{Answer, Refusal};
 
 // Whether a partner, an operation, a count of values and a partner to reply to are within their rules.
+#[tactic(auto, using(std::proofs::lemmas::Bool::Decides::nat_tests), unfolding(crate::specs::Limits::exchanged))]
 pub fn exchange_ruled(partner: u32, operation: u32, count: u32, reply: u32) -> bool
     ensures { result ≡ exchanged partner operation count reply }
 {
-    if 64 <= partner {
-        return false;
-    }
-    if 64 <= operation {
-        return false;
-    }
-    if count < 1 {
-        return false;
-    }
-    if 4 < count {
-        return false;
-    }
-    reply < 64
+    partner < 64 && operation < 64 && 1 <= count && count <= 4 && reply < 64
 }
 
 // Whether the values behind the first `count` are 0.
 fn rest_zero(values: [u32; 4], count: u32) -> bool
     ensures { result ≡ every (eqb 0) (drop count values) }
 {
-    let mut i = count as usize;
-    while i < 4 {
-        if 0 < values[i] {
-            return false;
-        }
-        i += 1;
-    }
-    true
+    values.iter().skip(count as usize).all(|x| *x == 0)
 }
 
 // A message that waits.
+#[tactic(auto, using(std::proofs::lemmas::Bool::Decides::nat_tests), unfolding(crate::specs::Limits::message_in_limits))]
 fn message_ruled(m: Message) -> bool
     ensures { result ≡ message_in_limits m }
 {
-    let values = m.values;
-    if exchange_ruled(m.partner, m.operation, m.count, m.reply) {
-        return rest_zero(values, m.count);
-    }
-    false
+    exchange_ruled(m.partner, m.operation, m.count, m.reply) && rest_zero(m.values, m.count)
 }
 
 // Whether a mark is that of a scope that faulted, which has a choice of a fault part beside it: faulty, undoing or handling.
+#[tactic(auto, using(std::proofs::lemmas::Bool::Decides::nat_tests), unfolding(plan::specs::Found::among))]
 fn is_chosen(mark: u8) -> bool
     ensures { result ≡ among (state_in mark) (faulty ∷ undoing ∷ handling ∷ []) }
 {
     let state = mark % 16;
-    if state < mark::FAULTY {
-        return false;
-    }
-    state <= mark::HANDLING
+    mark::FAULTY <= state && state <= mark::HANDLING
 }
 
 // The mark of the root.
+#[tactic(auto, using(std::proofs::lemmas::Bool::Decides::nat_tests), unfolding(crate::specs::Limits::root_in_limits, plan::specs::Found::among))]
 fn root_ruled(mark: u8) -> bool
     ensures { result ≡ root_in_limits mark }
 {
-    if mark < 2 {
-        return true;
-    }
-    is_chosen(mark)
+    mark < 2 || is_chosen(mark)
 }
 
 // The mark itself, and 0 for one that may have a choice: at most 8 exactly where the mark is within its limits. A state saved before there were choices has
 // none, and is within them as it was.
+#[tactic(auto, using(std::proofs::lemmas::Bool::Decides::nat_tests), unfolding(crate::specs::Limits::mark_in_limits))]
 fn bare(mark: u8) -> u8
     ensures { Bare mark result }
 {
-    if is_chosen(mark) {
-        return 0;
-    }
-    mark
-}
-
-// The larger of two numbers.
-fn larger(a: u8, b: u8) -> u8
-    ensures { (n : ℕ) → leb result n ≡ (leb a n && leb b n) }
-{
-    if a < b {
-        return b;
-    }
-    a
+    if is_chosen(mark) { 0 } else { mark }
 }
 
 // Whether some numbers are at most this. It looks at all of them and not only up to the first that is beyond, so that many are compared at once.
 fn at_most(s: &[u8], most: u8) -> bool
     ensures { result ≡ every (λ x. leb x most) s.now }
 {
-    let mut largest = 0u8;
-    let mut i = 0;
-    while i < s.len() {
-        largest = larger(largest, s[i]);
-        i += 1;
+    let mut largest = 0;
+    for x in s {
+        largest = largest.max(*x);
     }
     largest <= most
 }
@@ -117,57 +78,38 @@ fn at_most(s: &[u8], most: u8) -> bool
 fn marks_ruled(marks: &[u8]) -> bool
     ensures { result ≡ every mark_in_limits marks.now }
 {
-    let mut largest = 0u8;
-    let mut i = 0;
-    while i < marks.len() {
-        largest = larger(largest, bare(marks[i]));
-        i += 1;
+    let mut largest = 0;
+    for x in marks {
+        largest = largest.max(bare(*x));
     }
     largest <= 8
 }
 
 // The number of a fault: 0 to 5, and 16 and beyond.
+#[tactic(auto, using(std::proofs::lemmas::Bool::Decides::nat_tests), unfolding(order::specs::Expression::is_fault_number))]
 fn fault_ruled(number: u8) -> bool
     ensures { result ≡ is_fault_number number }
 {
-    if number <= fault::NO_SUCH_PARTNER {
-        return true;
-    }
-    16 <= number
+    number <= fault::NO_SUCH_PARTNER || 16 <= number
 }
 
 // An order.
+#[tactic(auto, using(std::proofs::lemmas::Bool::Decides::nat_tests), unfolding(crate::specs::Limits::order_in_limits))]
 fn order_ruled(o: Order) -> bool
     ensures { result ≡ order_in_limits o }
 {
-    if !root_ruled(o.root) {
-        return false;
-    }
-    if !marks_ruled(&o.marks) {
-        return false;
-    }
-    if !at_most(&o.bound, 1) {
-        return false;
-    }
-    if 32 < o.kept {
-        return false;
-    }
-    fault_ruled(o.cause)
+    root_ruled(o.root)
+        && marks_ruled(&o.marks)
+        && at_most(&o.bound, 1)
+        && o.kept <= 32
+        && fault_ruled(o.cause)
 }
 
 // The orders, live or not.
 fn orders_ruled(orders: [Order; 16]) -> bool
     ensures { result ≡ every order_in_limits orders }
 {
-    let mut i = 0;
-    while i < 16 {
-        let o = orders[i];
-        if !order_ruled(o) {
-            return false;
-        }
-        i += 1;
-    }
-    true
+    orders.iter().all(|o| order_ruled(*o))
 }
 
 // The messages that wait.
@@ -175,33 +117,18 @@ fn messages_ruled(messages: [Message; 64], waiting: usize) -> bool
     requires { waiting ≤ 64 }
     ensures { result ≡ every message_in_limits (take waiting messages) }
 {
-    let mut i = 0;
-    while i < waiting {
-        let m = messages[i];
-        if !message_ruled(m) {
-            return false;
-        }
-        i += 1;
-    }
-    true
+    messages[..waiting].iter().all(|m| message_ruled(*m))
 }
 
 // A state.
+#[tactic(auto, using(std::proofs::lemmas::Bool::Decides::nat_tests), unfolding(crate::specs::Limits::in_limits))]
 pub fn state_ruled(state: State) -> bool
     ensures { result ≡ in_limits state }
 {
-    let orders = state.orders;
-    let messages = state.messages;
-    if 4096 < state.length {
-        return false;
-    }
-    if 64 < state.waiting {
-        return false;
-    }
-    if !orders_ruled(orders) {
-        return false;
-    }
-    messages_ruled(messages, state.waiting)
+    state.length <= 4096
+        && state.waiting <= 64
+        && orders_ruled(state.orders)
+        && messages_ruled(state.messages, state.waiting)
 }
 
 // Whether the first n of some bytes are a plan, with its table, written over what that held, and its flags.

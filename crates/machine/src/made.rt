@@ -11,14 +11,12 @@ use order::{Closing, Order};
 pub fn no_order() -> Order
     ensures { result ≡ no_order }
 {
-    let closing = Closing { scope: 0, part: 0 };
-    let remembered = [closing; 32];
     Order {
         root: 0,
         marks: [0u8; 256],
         values: [0u32; 16],
         bound: [0u8; 16],
-        remembered,
+        remembered: [Closing { scope: 0, part: 0 }; 32],
         kept: 0,
         cause: 0,
     }
@@ -42,12 +40,8 @@ fn bytes_of(s: &[u8]) -> [u8; 4096]
     requires { length s.now ≤ 4096 }
     ensures { result ≡ stored 4096 s.now }
 {
-    let mut out = [0u8; 4096];
-    let mut i = 0;
-    while i < s.len() {
-        out[i] = s[i];
-        i += 1;
-    }
+    let mut out = [0; 4096];
+    out[..s.len()].copy_from_slice(s);
     out
 }
 
@@ -56,16 +50,11 @@ pub(crate) fn fresh_state(s: &[u8]) -> State
     requires { length s.now ≤ 4096 }
     ensures { result ≡ fresh s.now }
 {
-    let bytes = bytes_of(s);
-    let o = no_order();
-    let m = no_message();
-    let orders = [o; 16];
-    let messages = [m; 64];
     State {
-        plan: bytes,
+        plan: bytes_of(s),
         length: s.len(),
-        orders,
-        messages,
+        orders: [no_order(); 16],
+        messages: [no_message(); 64],
         waiting: 0,
     }
 }

@@ -1,25 +1,24 @@
 -- The offer is short enough to be counted: 16 orders of 256 activities with 64 messages, and 64 messages with 256 start receives. Assumes nothing.
-use mathlib.Core.Path.{◌≡◌, refl, sym, ap, ◌∙◌}
-use mathlib.Core.Bool.{Bool, true, false, cond, not, ◌&&◌, ◌||◌}
-use mathlib.Core.List.{List, [], ◌∷◌, ◌++◌, map}
-use Prim.Native.Nat.{ℕ, zero, suc, ◌+◌, ◌*◌, ◌-◌, ◌<◌, ◌≤◌}
+use mathlib.Core.Path.{◌≡◌, ap, ◌∙◌}
+use mathlib.Core.Bool.{Bool, true, false, cond, not, ◌&&◌}
+use mathlib.Core.List.{List, [], ◌∷◌, map}
+use Prim.Native.Nat.{ℕ, suc, ◌+◌, ◌*◌, ◌≤◌}
 use native.Mathlib.Nat.{mul-suc}
 use native.Mathlib.Omega.{arith}
 use lib.Dec.{leb}
-use lib.ListN.{length, get_or, take, length-append, length-map}
+use lib.ListN.{length, length-append, length-map}
 use lib.Seq.{length-take-le}
-use Rattle.plan.specs.Tree.{partner_from, Plan, size}
+use Rattle.plan.specs.Tree.{partner_from, Plan}
 use Rattle.plan.specs.Within.{plan_within}
-use Rattle.machine.specs.declared.Message.{Message}
 use Rattle.order.specs.declared.Order.{Order}
 use Rattle.machine.specs.declared.State.{State}
 use Rattle.order.specs.Acting.{started_order}
-use Rattle.machine.specs.Fit.{Doing, no_step, sends, takes, moves, cuts, closes, Ready, ready_of, Live, live_from, Letter, letters_from, fits, may_take}
-use Rattle.order.specs.Lists.{every, some, only, each, empties}
+use Rattle.machine.specs.Fit.{Doing, no_step, sends, takes, moves, cuts, closes, Ready, ready_of, live_from, Letter, letters_from, fits, may_take}
+use Rattle.order.specs.Lists.{some, only, each, empties}
 use Rattle.machine.specs.Offer.{Offer, offering, Offers, all_of, unless_held, is_cut, eager, send_held, close_held, step_offers, order_offers, start_of, starts_of, free_from, start_offers, offers_of}
 use Rattle.order.specs.State.{is_live}
 use Rattle.machine.specs.State.{letters}
-use Rattle.fit.specs.Lines.{Line, lines_of, is_ready, ready_at, ready_line, Tabled}
+use Rattle.fit.specs.Lines.{Line, lines_of, is_ready, ready_at, ready_line}
 use Rattle.fit.proofs.Lines.{ready-lines, size-short, plan-long}
 use Rattle.offer.proofs.Starting.{letters-long}
 

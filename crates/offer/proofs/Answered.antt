@@ -1,15 +1,14 @@
 -- What a choice comes to is what counting it down over the offer comes to. Assumes nothing.
 use mathlib.Core.Path.{◌≡◌, refl, sym, ap, ◌∙◌, subst}
-use mathlib.Core.Bool.{Bool, true, false, false≢true, cond, not, ◌&&◌, ◌||◌}
-use mathlib.Core.List.{List, [], ◌∷◌, ◌++◌}
-use Prim.Native.Nat.{ℕ, zero, suc, ◌+◌, ◌*◌, ◌-◌, ◌<◌, ◌≤◌}
+use mathlib.Core.Bool.{Bool, true, false, false≢true, cond, ◌&&◌}
+use mathlib.Core.List.{List, [], ◌∷◌}
+use Prim.Native.Nat.{ℕ, zero, suc, ◌+◌, ◌-◌, ◌<◌, ◌≤◌}
 use native.Mathlib.Omega.{arith}
-use borrow.Author.Tests.{eq-eqb, ne_eqb, le-leb, lt-leb, leb-true, leb-false, ltb-true, ltb-false}
+use borrow.Author.Tests.{eq-eqb, ne_eqb, le-leb, leb-true, leb-false, ltb-true, ltb-false}
 use lib.Dec.{eqb, ltb, leb}
 use lib.ListN.{length, get_or, take}
 use lib.Seq.{length-take-le, get_or-take}
 use Rattle.plan.specs.Tree.{Plan}
-use Rattle.order.specs.declared.End.{End}
 use Rattle.machine.specs.declared.Message.{Message}
 use Rattle.order.specs.declared.Order.{Order}
 use Rattle.machine.specs.declared.State.{State}
@@ -18,8 +17,7 @@ use Rattle.order.specs.Acting.{started_order}
 use Rattle.order.specs.Answering.{Spelled, StartsOrder as Begun}
 use Rattle.fit.specs.Answering.{Correlated, message_at, Letters, Picks}
 use Rattle.machine.specs.Calls.{Chosen, refused_choice, chosen, nth, choosing, previewed, preview_by}
-use Rattle.machine.specs.Fit.{Ready, ready_of, Live, live_from, Letter, letters_from, fittings}
-use Rattle.machine.specs.Limits.{message_in_limits, in_limits}
+use Rattle.machine.specs.Fit.{ready_of, live_from, Letter, letters_from, fittings}
 use Rattle.order.specs.Lists.{every, empties}
 use Rattle.machine.specs.Offer.{Offer, offering, Offers, together, all_of, order_offers, free_from, start_offers, offers_of}
 use Rattle.machine.specs.State.{no_message, letters}
@@ -28,12 +26,11 @@ use Rattle.sight.specs.declared.Pointer.{Pointer}
 use Rattle.sight.specs.declared.Sight.{Sight}
 use Rattle.fit.specs.Folds.{folded, lesser}
 use Rattle.fit.specs.Lines.{Tabled}
-use Rattle.sight.specs.Sights.{pointed, seen, unseen, Unseen, chosen_by, answered, Tells, no_letter, Told}
+use Rattle.sight.specs.Sights.{pointed, seen, unseen, Unseen, chosen_by, answered, no_letter, Told}
 use Rattle.fit.specs.Receiving.{Across, Leasts}
 use Rattle.offer.specs.Acts.{Acts, act_live}
 use Rattle.offer.specs.Seeing.{Informed, offer_live, Mailed, StartsOrder, SeesBy, SeesAll, Previews, amounted, amount_of, Amounts}
 use Rattle.offer.proofs.Amounted.{offers-short}
-use Rattle.fit.proofs.Lines.{fold_same}
 use Rattle.offer.proofs.OrderSeen.{seen-acts, acts-all}
 use Rattle.sight.proofs.Sighting.{pointed-found}
 use Rattle.offer.proofs.Starting.{letters-long, letters-at}

@@ -1,33 +1,29 @@
 -- What a state with its plan, table and flags has, how it comes by them, and the returns of the public calls. Assumes nothing.
-use mathlib.Core.Path.{◌≡◌, refl, sym, ap, ◌∙◌}
-use mathlib.Core.Bool.{Bool, true, false}
+use mathlib.Core.Path.{◌≡◌, ap, ◌∙◌}
+use mathlib.Core.Bool.{true, false}
 use mathlib.Core.List.{List}
 use Prim.Native.Nat.{ℕ, ◌+◌, ◌<◌, ◌≤◌}
 use native.Mathlib.Omega.{arith}
 use lib.ListN.{length, take}
-use Rattle.plan.specs.declared.Answer.{Answer}
-use Rattle.plan.specs.declared.Answer.TheVariants.{Accepted}
+use Rattle.std.specs.Prelude.{Result, Ok, Err}
+use Rattle.plan.specs.declared.Accepted.{Accepted}
+use Rattle.plan.specs.declared.Refusal.{Refusal}
 use Rattle.plan.specs.Answers.{answer_of, table_into, table_for, flags_for}
-use Rattle.plan.specs.Found.{Found, refused, found}
+use Rattle.plan.specs.Found.{found}
 use Rattle.plan.specs.Table.{table_of, flags_of}
 use Rattle.plan.specs.Tree.{Plan, size}
-use Rattle.order.specs.declared.Order.{Order}
-use Rattle.order.specs.Acting.{started_order}
-use Rattle.order.specs.Answering.{Spelled, StartsOrder}
 use Rattle.order.proofs.Accepted.{accepted-spelled}
 use Rattle.order.proofs.PlanStands.{plan-stands}
 use Rattle.order.proofs.Standing.{stands-inside}
 use Rattle.machine.specs.declared.State.{State}
 use Rattle.machine.specs.declared.Step.{Step}
 use Rattle.machine.specs.Calls.{preview_by, preview, refusing}
-use Rattle.machine.specs.Limits.{in_limits, plan_in, by}
-use Rattle.machine.specs.Offer.{offers_of}
+use Rattle.machine.specs.Limits.{in_limits, plan_in}
 use Rattle.machine.proofs.Called.{answer-no, answer-got, plan-found}
 use Rattle.machine.proofs.Moved.{limits-waiting}
 use Rattle.offer.specs.declared.Amount.{Amount}
 use Rattle.offer.specs.declared.Offered.{Offered}
 use Rattle.offer.specs.Having.{Has, OffersBy, offered_in}
-use Rattle.fit.specs.Lines.{Tabled}
 use Rattle.offer.specs.Seeing.{Previews, Amounts}
 use Rattle.fit.proofs.FirstFits.{accepted-correlated}
 
@@ -75,23 +71,23 @@ has-found {s} {p} {next} e m x y l =
       correlated = rw y (accepted-correlated (take s.length s.plan) w);
     }
 
-module _ (s : State) {a : Answer} (e : a ≡ answer_of (plan_in s)) where
-  pub has-from : {v k n : ℕ} {t flags : List ℕ} → a ≡ Accepted v k n → t ≡ table_for (plan_in s) → flags ≡ flags_for (plan_in s) → length s.messages ≡ 64 → Has t flags k s
+module _ (s : State) {a : Result Accepted Refusal} (e : a ≡ answer_of (plan_in s)) where
+  pub has-from : {good : Accepted} {t flags : List ℕ} → a ≡ Ok good → t ≡ table_for (plan_in s) → flags ≡ flags_for (plan_in s) → length s.messages ≡ 64 → Has t flags good.activities s
   unfolding answer_of table_into flags_for
-  has-from {v} {k} {n} {t} {flags} o q f l =
+  has-from {good} {t} {flags} o q f l =
       let g = answer-got (plan_in s) e o in
       let i : a ≡ answer_of (found g.plan g.next) = e ∙ ap answer_of g.is in
-      let m : k ≡ size g.plan.body + size g.plan.fault = cc in
+      let m : good.activities ≡ size g.plan.body + size g.plan.fault = cc in
       has-found g.is m (q ∙ ap table_for g.is) (f ∙ ap flags_for g.is) l
 
-  pub offer-unplanned : (c : ℕ) {number place : ℕ} → a ≡ Answer.Refused number place → {r : Step} → r ≡ refusing 17 → r ≡ preview c s
+  pub offer-unplanned : (c : ℕ) {bad : Refusal} → a ≡ Err bad → {r : Step} → r ≡ refusing 17 → r ≡ preview c s
   unfolding preview
   offer-unplanned c o q = q ∙ rw (answer-no (plan_in s) e o)
 
-  pub offer-planned : (c : ℕ) {v k n : ℕ} {t flags : List ℕ} {r : Step} → a ≡ Accepted v k n → t ≡ table_for (plan_in s) → flags ≡ flags_for (plan_in s)
-      → length s.messages ≡ 64 → OffersBy t flags k s c r → r ≡ preview c s
+  pub offer-planned : (c : ℕ) {good : Accepted} {t flags : List ℕ} {r : Step} → a ≡ Ok good → t ≡ table_for (plan_in s) → flags ≡ flags_for (plan_in s)
+      → length s.messages ≡ 64 → OffersBy t flags good.activities s c r → r ≡ preview c s
   offer-planned c o q f l x = x.is (has-from o q f l)
 
-  pub count-unplanned : {number place : ℕ} → a ≡ Answer.Refused number place → ◌≡◌ {A = Offered} (record { refusal = 17; many = 0; held = false }) (offered_in s)
+  pub count-unplanned : {bad : Refusal} → a ≡ Err bad → ◌≡◌ {A = Offered} (record { refusal = 17; many = 0; held = false }) (offered_in s)
   unfolding offered_in
   count-unplanned o = rw (answer-no (plan_in s) e o)

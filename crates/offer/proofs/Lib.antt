@@ -3,3 +3,4 @@ pub mod Starting
 mod Amounted
 pub mod Answered
 pub mod Having
+pub mod Sets

@@ -1,30 +1,32 @@
 -- What may start: the lowest free slot, and the start receives that a message fits. Assumes nothing.
 use mathlib.Core.Path.{◌≡◌, refl, sym, ap, ◌∙◌}
-use mathlib.Core.Bool.{Bool, true, false, false≢true, cond, not, ◌&&◌, ◌||◌}
-use mathlib.Core.List.{List, [], ◌∷◌, ◌++◌, map}
-use Prim.Native.Nat.{ℕ, zero, suc, ◌+◌, ◌*◌, ◌-◌, ◌<◌, ◌≤◌}
+use mathlib.Core.Bool.{Bool, true, false, false≢true, cond, not, ◌&&◌}
+use mathlib.Core.List.{List, [], ◌∷◌, map}
+use Prim.Native.Nat.{ℕ, zero, suc, ◌+◌, ◌<◌, ◌≤◌}
 use native.Mathlib.Numerals.{add-one}
 use native.Mathlib.Nat.{add-zero}
 use native.Mathlib.Omega.{arith}
 use borrow.Author.Tests.{eq-eqb, ne_eqb, lt-ltb, le-ltb, le-leb, lt-leb, ltb-true, ltb-false}
-use lib.Dec.{eqb, ltb, leb}
-use lib.ListN.{length, get_or, drop, take, drop_of_length-le}
+use lib.Dec.{ltb, leb}
+use lib.ListN.{length, get_or, drop, drop_of_length-le}
 use lib.Seq.{drop-cons}
-use Rattle.plan.specs.Tree.{partner_from, Own, empty, send, receive, set as setting, raise, leave, choose, repeat, sequence, flow, pick, scope, arm, kind, Act, act, Acts, none, more, Plan, size}
+use Rattle.plan.specs.Tree.{partner_from, Own, empty, send, receive, set as setting, raise, leave, choose, repeat, sequence, flow, pick, scope, arm, Acts, Plan}
 use Rattle.machine.specs.declared.Message.{Message}
 use Rattle.order.specs.declared.Order.{Order}
+use Rattle.std.specs.Prelude.{Option, None, Some}
+use Rattle.std.specs.Option.{is_some}
 use Rattle.fit.specs.declared.Receiver.{Receiver}
 use Rattle.fit.specs.Answering.{Correlated, KnowsOrder, message_at, Picks, fits_own, catches}
-use Rattle.fit.specs.Finding.{first_receiver, is_nothing}
-use Rattle.machine.specs.Fit.{Doing, no_step, sends, takes, moves, cuts, closes, doing_of, awaits, Ready, ready_of, Live, live_from, Letter, letters_from, fits, fittings}
+use Rattle.fit.specs.Finding.{is_nothing}
+use Rattle.machine.specs.Fit.{doing_of, awaits, ready_of, Live, live_from, Letter, letters_from, fits, fittings}
 use Rattle.order.specs.Lists.{each, empties}
-use Rattle.machine.specs.Offer.{Offer, offering, Offers, unless_held, start_of, starts_of, free_from, start_offers}
+use Rattle.machine.specs.Offer.{offering, Offers, unless_held, start_of, starts_of, free_from, start_offers}
 use Rattle.order.specs.State.{is_live, mark_at}
 use Rattle.machine.specs.State.{no_message}
 use Rattle.fit.proofs.FirstFits.{first-exactly}
 use Rattle.sight.specs.declared.Sight.{Sight}
 use Rattle.fit.specs.Folds.{folded}
-use Rattle.fit.specs.Lines.{Line, lines_of, is_ready, ready_at, Stands, Tabled, Rows, Wholes}
+use Rattle.fit.specs.Lines.{Line, lines_of, is_ready, ready_at, Tabled, Rows, Wholes}
 use Rattle.offer.specs.Seeing.{Frees, start_line, Could, StartsLetter, StartsAt, Mailed, Starts, StartsOrder}
 use Rattle.sight.specs.Sights.{pointed, seen, showing, withholding, no_letter}
 use Rattle.fit.specs.Receiving.{Lent, TakesRow, Receives}
@@ -42,11 +44,12 @@ pub freeing-starts : (orders : List Order) → length orders ≡ 16 → Freeing 
 freeing-starts orders e = record { long = e; within = omega arith; same = refl }
 
 module _ {orders : List Order} {i : ℕ} (w : Freeing orders i) where
-  pub freeing-none : 16 ≤ i → Frees orders i
+  pub freeing-none : 16 ≤ i → Frees orders 16
   unfolding free_from
   freeing-none h =
       let long : length orders ≤ i = omega (arith, w.long) in
-      record { is = sym (w.same ∙ rw (drop_of_length-le orders long)) }
+      let all : i ≡ 16 = omega (arith, w.within) in
+      record { is = sym (w.same ∙ (rw (drop_of_length-le orders long) all)) }
 
   free_step : (d : Order) → i < 16 → free_from 0 orders ≡ cond (is_live (get_or orders i d)) (free_from (i + 1) (drop (i + 1) orders)) i
   unfolding free_from
@@ -167,7 +170,12 @@ start-whole : {t picks marks known : List ℕ} {n : ℕ} (free : ℕ) (letters :
 start-whole free letters j {s} g o p y lent q place message =
     g.is o p [] lent q ∙ rw (← message, ← place) (sym (start-lines free p [] o y s))
 
-fits-none : {t flags picks : List ℕ} {orders : List Order} {n : ℕ} {letters : List ℕ} {j : ℕ} {r : Receiver} → j < 64 → Receives t flags picks orders n letters j r
+nothing-not : (r : Option Receiver) → is_some r ≡ true → is_nothing r ≡ false
+unfolding is_nothing
+nothing-not (Some x) e = refl
+nothing-not None e = cc
+
+fits-none : {t flags picks : List ℕ} {orders : List Order} {n : ℕ} {letters : List ℕ} {j : ℕ} {r : Option Receiver} → j < 64 → Receives t flags picks orders n letters j r
     → (p : Plan) → Correlated p flags → Picks t picks → Tabled p t n → is_nothing r ≡ empties (fittings p (live_from p 0 orders) (message_at letters j))
 fits-none {orders = orders} {letters = letters} {j} few w p cor v y =
     ap is_nothing (w.is few p cor v y) ∙ first-exactly p (live_from p 0 orders) (message_at letters j)
@@ -186,17 +194,17 @@ start-unlike flags orders free s w e = record {
     by-test o p y true u = sym u
     by-test o p y false u = refl
 
-module _ {t flags picks : List ℕ} {orders : List Order} {n : ℕ} {letters : List ℕ} {j : ℕ} {r : Receiver} (few : j < 64) (w : Receives t flags picks orders n letters j r) where
-  pub start-not : (marks known : List ℕ) (free : ℕ) (s : Sight) (i k : ℕ) → r ≡ Receiver.At i k
+module _ {t flags picks : List ℕ} {orders : List Order} {n : ℕ} {letters : List ℕ} {j : ℕ} {r : Option Receiver} (few : j < 64) (w : Receives t flags picks orders n letters j r) where
+  pub start-not : (marks known : List ℕ) (free : ℕ) (s : Sight) → is_some r ≡ true
       → StartsLetter seen t flags picks orders marks known free n letters j s s
   unfolding is_nothing folded
-  start-not marks known free s i k e = record {
+  start-not marks known free s e = record {
     is = λ o p y cor lent q place message fitted.
-        let z : empties y.fitted ≡ false = ap empties fitted ∙ (sym (fits-none few w p cor lent.picked q) ∙ rw e) in
+        let z : empties y.fitted ≡ false = ap empties fitted ∙ (sym (fits-none few w p cor lent.picked q) ∙ nothing-not r e) in
         sym (starts-empty free o s p y ∙ rw z);
   }
 
-  pub start-may : {marks known : List ℕ} (free : ℕ) {s v : Sight} → r ≡ Receiver.Nothing
+  pub start-may : {marks known : List ℕ} (free : ℕ) {s v : Sight} → r ≡ None
       → Wholes t n (Lent t picks marks known) (start_line free j (message_at letters j)) s v
       → StartsLetter seen t flags picks orders marks known free n letters j s v
   unfolding is_nothing

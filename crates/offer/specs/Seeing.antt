@@ -1,6 +1,6 @@
 -- Glue: what the orders have on offer, what may start, and what is seen of the whole offer. Assumes nothing: these are definitions, and nothing here has to be
 -- believed.
-use Rattle.std.specs.Prelude.{ℕ, ◌-◌, ◌<◌, ◌≤◌, Bool, false, cond, not, List, [], ◌≡◌, ltb, length, get_or}
+use Rattle.std.specs.Prelude.{ℕ, ◌-◌, ◌<◌, ◌≤◌, Bool, false, cond, List, [], ◌≡◌, ltb, length, get_or}
 use Rattle.plan.specs.Tree.{Plan}
 use Rattle.machine.specs.declared.Message.{Message}
 use Rattle.order.specs.declared.Order.{Order}

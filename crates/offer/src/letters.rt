@@ -14,6 +14,7 @@ pub fn lowest_free(orders: [Order; 16]) -> usize
 }
 
 // What the message at place j may start, whatever j is, in the slot `free`: `marks` and `known` are those of an order as it starts.
+#[tactic(auto, using(crate::proofs::Sets::letter_sight))]
 pub fn letter_sight(
     table: &Table,
     flags: &[u8; 16],
@@ -29,10 +30,7 @@ pub fn letter_sight(
 ) -> Sight
     ensures { StartsAt table.now flags.now picks.now orders marks.now known.now free activities letters.now j s result }
 {
-    if 256 < activities {
-        return s;
-    }
-    if 64 <= j {
+    if 256 < activities || 64 <= j {
         return s;
     }
     start_letter(

@@ -30,6 +30,7 @@ pub struct Offered {
 }
 
 // What a choice comes to in a state that has the plan with this table and these flags.
+#[tactic(auto, using(crate::proofs::Sets::offer_by))]
 pub fn offer_by(
     table: &Table,
     flags: &[u8; 16],
@@ -39,29 +40,27 @@ pub fn offer_by(
 ) -> Step
     ensures { OffersBy table.now flags.now activities state choice result }
 {
-    if 256 < activities {
-        return counting::refused(17);
-    }
-    if 64 < state.waiting {
+    if 256 < activities || 64 < state.waiting {
         return counting::refused(17);
     }
     previews::preview_by(table, flags, state, activities, choice)
 }
 
 // The step that a choice would take, not taken.
+#[tactic(auto, using(crate::proofs::Sets::offer))]
 pub fn offer(state: State, choice: usize) -> Step
     ensures { result ≡ preview choice state }
 {
     let mut table = [0u32; LENGTH];
     let mut flags = [0u8; 16];
-    let a = limits::planned(state, &mut table, &mut flags);
-    match a {
+    match limits::planned(state, &mut table, &mut flags) {
         Err(_) => counting::refused(17),
         Ok(Accepted { activities, .. }) => offer_by(&table, &flags, activities, state, choice),
     }
 }
 
 // How many steps are offered in a state that has the plan with this table and these flags.
+#[tactic(auto, using(crate::proofs::Sets::count_by))]
 fn count_by(table: &Table, flags: &[u8; 16], activities: usize, state: State) -> Offered
     requires { Has table.now flags.now activities state }
     ensures { result ≡ offered_in state }
@@ -75,13 +74,13 @@ fn count_by(table: &Table, flags: &[u8; 16], activities: usize, state: State) ->
 }
 
 // How many steps are offered, and whether something is held.
+#[tactic(auto, using(crate::proofs::Sets::offers))]
 pub fn offers(state: State) -> Offered
     ensures { result ≡ offered_in state }
 {
     let mut table = [0u32; LENGTH];
     let mut flags = [0u8; 16];
-    let a = limits::planned(state, &mut table, &mut flags);
-    match a {
+    match limits::planned(state, &mut table, &mut flags) {
         Err(_) => Offered {
             refusal: 17,
             many: 0,

@@ -17,6 +17,7 @@ use sight::counting::{answer, nothing_seen};
 // What is seen of the whole offer of some orders and letters: first, for each message that waits, the
 // fewest unchecked places of the open receives that it fits, 5 where it fits none; then what each live order has on offer; then what may start.
 // The loops stand here and a free slot is passed by, since orders go by value: a call with all of them, or with one, copies them.
+#[tactic(auto, using(crate::proofs::Sets::sight_in))]
 fn sight_in(
     table: &Table,
     flags: &[u8; 16],
@@ -30,31 +31,23 @@ fn sight_in(
     requires { (activities ≤ 256) × (waiting ≤ 64) }
     ensures { SeesBy table.now flags.now picks.now orders activities letters.now waiting choice result }
 {
-    let mut least = [5usize; 64];
-    let mut i: usize = 0;
-    while i < 16 {
-        if orders[i].root == 0 {
-            i += 1;
+    let mut least = [5; 64];
+    for o in &orders {
+        if o.root == 0 {
             continue;
         }
-        let o = orders[i];
         least_slot(
-            table, flags, picks, o, activities, letters, waiting, &mut least,
+            table, flags, picks, *o, activities, letters, waiting, &mut least,
         );
-        i += 1;
     }
     let mut part = nothing_seen(choice);
-    let mut slot: usize = 0;
-    while slot < 16 {
-        if orders[slot].root == 0 {
-            slot += 1;
+    for (slot, o) in orders.iter().enumerate() {
+        if o.root == 0 {
             continue;
         }
-        let o = orders[slot];
         part = offer_slot(
-            table, flags, picks, o, slot, activities, letters, waiting, &least, part,
+            table, flags, picks, *o, slot, activities, letters, waiting, &least, part,
         );
-        slot += 1;
     }
     if waiting == 0 {
         return part;
@@ -66,6 +59,7 @@ fn sight_in(
 }
 
 // What is seen of the whole offer.
+#[tactic(auto, using(crate::proofs::Sets::sight_of))]
 fn sight_of(
     table: &Table,
     flags: &[u8; 16],
@@ -76,15 +70,13 @@ fn sight_of(
     requires { (activities ≤ 256) × (state.waiting ≤ 64) }
     ensures { SeesAll table.now flags.now state activities choice result }
 {
-    let orders = state.orders;
-    let messages = state.messages;
-    let letters = letters_of(messages, state.waiting);
+    let letters = letters_of(state.messages, state.waiting);
     let picks = picks_of(table);
     sight_in(
         table,
         flags,
         &picks,
-        orders,
+        state.orders,
         activities,
         &letters,
         state.waiting,
@@ -93,6 +85,7 @@ fn sight_of(
 }
 
 // What a choice comes to.
+#[tactic(auto, using(crate::proofs::Sets::preview_by))]
 pub(crate) fn preview_by(
     table: &Table,
     flags: &[u8; 16],
@@ -108,23 +101,18 @@ pub(crate) fn preview_by(
 }
 
 // How much was seen on offer, where the choice counted down was 4,294,967,295.
+#[tactic(auto, using(crate::proofs::Sets::amount_of))]
 fn amount_of(s: Sight) -> Amount
     ensures { result ≡ amounted s }
 {
-    let p = s.pointer;
-    if 4294967295 < p.left {
-        return Amount {
-            many: 0,
-            held: s.held,
-        };
-    }
     Amount {
-        many: 4294967295 - p.left,
+        many: 4294967295usize.saturating_sub(s.pointer.left),
         held: s.held,
     }
 }
 
 // How much is on offer.
+#[tactic(auto, using(crate::proofs::Sets::offered_by))]
 pub(crate) fn offered_by(table: &Table, flags: &[u8; 16], state: State, activities: usize) -> Amount
     requires { (activities ≤ 256) × (state.waiting ≤ 64) }
     ensures { Amounts table.now flags.now state activities result }

@@ -6,7 +6,6 @@ ghost use Rattle.offer.specs.Seeing.{Frees, Informed, offer_live, start_line, Co
 ghost use Rattle.fit.specs.Receiving.{Slots, Lent};
 ghost use Rattle.sight.specs.Sights.{seen};
 
-use fit::Receiver;
 use fit::fitness::known_of;
 use fit::search::{first_receiver, takes_at};
 use order::Order;
@@ -17,6 +16,7 @@ use sight::memory::parts_of;
 use sight::rows::{cut_rows, offer_rows};
 
 // What the order in a slot has on offer.
+#[tactic(auto, using(crate::proofs::Sets::offer_slot))]
 pub(crate) fn offer_slot(
     table: &Table,
     flags: &[u8; 16],
@@ -48,20 +48,20 @@ pub(crate) fn offer_slot(
 }
 
 // The lowest free slot, 16 where there is none.
+#[tactic(auto, using(crate::proofs::Sets::free_slot))]
 pub(crate) fn free_slot(orders: [Order; 16]) -> usize
     ensures { Frees orders result }
 {
-    let mut i: usize = 0;
-    while i < 16 {
-        if orders[i].root == 0 {
+    for (i, o) in orders.iter().enumerate() {
+        if o.root == 0 {
             return i;
         }
-        i += 1;
     }
-    i
+    16
 }
 
 // What a message adds at row k of an order as it starts.
+#[tactic(auto, using(crate::proofs::Sets::start_row))]
 fn start_row(
     table: &Table,
     picks: &[usize; 256],
@@ -76,16 +76,17 @@ fn start_row(
     requires { (k < 256) × (j < 64) }
     ensures { Rows table.now k (Lent table.now picks.now marks.now known.now) (start_line free j (message_at letters.now j)) s result }
 {
-    if takes_at(table, picks, marks, known, k, letters, j) {
-        if free < 16 {
-            return shown(s, free, k, j);
-        }
-        return withheld(s);
+    if !takes_at(table, picks, marks, known, k, letters, j) {
+        s
+    } else if free < 16 {
+        shown(s, free, k, j)
+    } else {
+        withheld(s)
     }
-    s
 }
 
 // What a message adds at all rows of an order as it starts.
+#[tactic(auto, using(crate::proofs::Sets::start_rows))]
 fn start_rows(
     table: &Table,
     picks: &[usize; 256],
@@ -101,15 +102,14 @@ fn start_rows(
     ensures { Wholes table.now activities (Lent table.now picks.now marks.now known.now) (start_line free j (message_at letters.now j)) s result }
 {
     let mut c = s;
-    let mut k: usize = 0;
-    while k < activities {
+    for k in 0..activities {
         c = start_row(table, picks, marks, known, free, k, letters, j, c);
-        k += 1;
     }
     c
 }
 
 // Whether a message would be taken by an order as it starts.
+#[tactic(auto, using(crate::proofs::Sets::could_start))]
 fn could_start(
     table: &Table,
     picks: &[usize; 256],
@@ -122,17 +122,16 @@ fn could_start(
     requires { (activities ≤ 256) × (j < 64) }
     ensures { Could table.now picks.now marks.now known.now activities letters.now j result }
 {
-    let mut k: usize = 0;
-    while k < activities {
+    for k in 0..activities {
         if takes_at(table, picks, marks, known, k, letters, j) {
             return true;
         }
-        k += 1;
     }
     false
 }
 
 // What the message at place j may start: whether it fits an open receive is asked only where an order as it starts would take it.
+#[tactic(auto, using(crate::proofs::Sets::start_letter))]
 pub(crate) fn start_letter(
     table: &Table,
     flags: &[u8; 16],
@@ -149,23 +148,17 @@ pub(crate) fn start_letter(
     requires { (activities ≤ 256) × (j < 64) }
     ensures { StartsLetter seen table.now flags.now picks.now orders marks.now known.now free activities letters.now j s result }
 {
-    if could_start(table, picks, marks, known, activities, letters, j) {
-        let found = first_receiver(table, flags, picks, orders, activities, letters, j);
-        match found {
-            Receiver::At {
-                slot: _,
-                activity: _,
-            } => s,
-            Receiver::Nothing => start_rows(
-                table, picks, marks, known, free, activities, letters, j, s,
-            ),
-        }
+    if could_start(table, picks, marks, known, activities, letters, j)
+        && first_receiver(table, flags, picks, orders, activities, letters, j).is_none()
+    {
+        start_rows(table, picks, marks, known, free, activities, letters, j, s)
     } else {
         s
     }
 }
 
 // What the messages that wait may start.
+#[tactic(auto, using(crate::proofs::Sets::start_letters))]
 fn start_letters(
     table: &Table,
     flags: &[u8; 16],
@@ -183,17 +176,16 @@ fn start_letters(
     ensures { Starts seen table.now flags.now picks.now orders marks.now known.now free activities letters.now waiting s result }
 {
     let mut c = s;
-    let mut j: usize = 0;
-    while j < waiting {
+    for j in 0..waiting {
         c = start_letter(
             table, flags, picks, orders, marks, known, free, activities, letters, j, c,
         );
-        j += 1;
     }
     c
 }
 
 // What may start in the lowest free slot, where `order` is an order as it starts.
+#[tactic(auto, using(crate::proofs::Sets::starts))]
 pub(crate) fn starts(
     table: &Table,
     flags: &[u8; 16],

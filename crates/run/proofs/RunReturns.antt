@@ -9,8 +9,9 @@ use borrow.Author.Tests.{eq-eqb, ne_eqb}
 use lib.Dec.{eqb}
 use lib.ListN.{length, get_or, take, drop, set, length-set, drop_of_length-le}
 use lib.Seq.{drop-cons}
-use Rattle.plan.specs.declared.Answer.{Answer}
-use Rattle.plan.specs.declared.Answer.TheVariants.{Accepted}
+use Rattle.std.specs.Prelude.{Result, Ok, Err}
+use Rattle.plan.specs.declared.Accepted.{Accepted}
+use Rattle.plan.specs.declared.Refusal.{Refusal}
 use Rattle.plan.specs.Answers.{answer_of, table_for, flags_for}
 use Rattle.plan.specs.Found.{Found, refused, found}
 use Rattle.plan.specs.Table.{table_of, flags_of}
@@ -45,22 +46,22 @@ use Rattle.laws.proofs.Offering.{pick_true, pick-false}
 use Rattle.laws.proofs.Keeping.{step-by-keeps, step-is-by, step_keeps}
 
 -- `run_told`: a state that earns 17, and one that has a plan
-module _ (s : State) {a : Answer} (e : a ≡ answer_of (plan_in s)) where
-  pub run-unplanned : (cs : List ℕ) (b : ℕ) (y : Tally) {number place : ℕ} → a ≡ Answer.Refused number place
+module _ (s : State) {a : Result Accepted Refusal} (e : a ≡ answer_of (plan_in s)) where
+  pub run-unplanned : (cs : List ℕ) (b : ℕ) (y : Tally) {bad : Refusal} → a ≡ Err bad
       → ◌≡◌ {A = Ran} (record { taken = 0; refusal = 17; state = s; tally = y }) (ran_of (run cs b s y))
   unfolding run
   run-unplanned cs b y o = rw (answer-no (plan_in s) e o)
 
-  pub run-planned : (cs : List ℕ) (b : ℕ) (y : Tally) {v k n : ℕ} → a ≡ Accepted v k n → {r : Ran} → r ≡ ran_of (run_by step cs b s y) → r ≡ ran_of (run cs b s y)
+  pub run-planned : (cs : List ℕ) (b : ℕ) (y : Tally) {good : Accepted} → a ≡ Ok good → {r : Ran} → r ≡ ran_of (run_by step cs b s y) → r ≡ ran_of (run cs b s y)
   unfolding run
   run-planned cs b y o q = let g = answer-got (plan_in s) e o in q ∙ rw g.is
 
-  pub told-unplanned : (cs : List ℕ) (b : ℕ) (y : Tally) (w : List ℕ) {number place : ℕ} → a ≡ Answer.Refused number place
+  pub told-unplanned : (cs : List ℕ) (b : ℕ) (y : Tally) (w : List ℕ) {bad : Refusal} → a ≡ Err bad
       → w ≡ filled 0 (map step_number (told_in cs b s y)) w
   unfolding told_in filled
   told-unplanned cs b y w o = rw (answer-no (plan_in s) e o)
 
-  pub told-planned : (cs : List ℕ) (b : ℕ) (y : Tally) (w : List ℕ) {v k n : ℕ} → a ≡ Accepted v k n → {u : List ℕ}
+  pub told-planned : (cs : List ℕ) (b : ℕ) (y : Tally) (w : List ℕ) {good : Accepted} → a ≡ Ok good → {u : List ℕ}
       → u ≡ filled 0 (map step_number (told_by step cs b s y)) w → u ≡ filled 0 (map step_number (told_in cs b s y)) w
   unfolding told_in
   told-planned cs b y w o q = let g = answer-got (plan_in s) e o in q ∙ rw g.is

@@ -3,3 +3,4 @@ mod Rowed
 mod Closes
 mod Remembered
 pub mod RowSeen
+pub mod Sets

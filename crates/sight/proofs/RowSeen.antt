@@ -25,7 +25,7 @@ use Rattle.fit.specs.Answering.{Picks}
 use Rattle.fit.specs.Lines.{Line, is_ready, Stands, Rows, Wholes}
 use Rattle.sight.specs.Sights.{pointed, seen, showing, withholding, Exchanging, Heeding, Serving, Opening, is_send_code, doing_by, AwaitsRow, CutRow, ClosesRow, take_letter, take_line, doing_line, offer_line}
 use Rattle.fit.proofs.Lines.{fold-only}
-use Rattle.fit.proofs.SearchReturns.{stands-kind, stands-exchange}
+use Rattle.fit.proofs.SearchReturns.{stands-exchange}
 
 pub or-false : (b : Bool) → (b || false) ≡ b
 or-false true = refl

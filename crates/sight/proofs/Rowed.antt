@@ -1,28 +1,25 @@
 -- The returns of the functions that ask what a row has on offer. Assumes nothing.
 use mathlib.Core.Path.{◌≡◌, refl, sym, ap, ◌∙◌}
-use mathlib.Core.Bool.{Bool, true, false, false≢true, cond, not, ◌&&◌, ◌||◌}
-use mathlib.Core.List.{List, [], ◌∷◌, ◌++◌, map}
-use Prim.Native.Nat.{ℕ, zero, suc, ◌+◌, ◌*◌, ◌-◌, ◌<◌, ◌≤◌}
-use native.Mathlib.Nat.{add-zero}
+use mathlib.Core.Bool.{Bool, true, false, false≢true, cond, ◌&&◌, ◌||◌}
+use mathlib.Core.List.{List, [], ◌∷◌}
+use Prim.Native.Nat.{ℕ, zero, suc, ◌+◌, ◌*◌, ◌<◌, ◌≤◌}
 use native.Mathlib.Numerals.{add-one}
 use native.Mathlib.Omega.{arith}
-use borrow.Author.Tests.{eq-eqb, ne_eqb, lt-ltb, le-ltb, le-leb, lt-leb}
-use lib.Dec.{eqb, ltb, leb}
-use lib.ListN.{length, get_or, drop, take, drop_of_length-le}
-use lib.Seq.{drop-cons, get_or-drop}
+use borrow.Author.Tests.{eq-eqb, ne_eqb, le-leb, lt-leb}
+use lib.Dec.{eqb, leb}
+use lib.ListN.{length, get_or, drop, drop_of_length-le}
+use lib.Seq.{drop-cons}
 use Rattle.plan.specs.Read.{is_scope_code}
-use Rattle.plan.specs.Spells.{Row, Spells, variables_of}
-use Rattle.plan.specs.Table.{row_of}
-use Rattle.plan.specs.Tree.{to_partner, to_held, from_partner, from_asking, Own, empty, send, receive, set as setting, raise, leave, choose, repeat, sequence, flow, pick, scope, arm, kind, Act, act, Acts, none, more, Plan, size}
+use Rattle.plan.specs.Spells.{variables_of}
+use Rattle.plan.specs.Tree.{to_partner, to_held, from_partner, from_asking, Own, empty, send, receive, set as setting, raise, leave, choose, repeat, sequence, flow, pick, scope, arm, kind, Acts, Plan}
 use Rattle.order.specs.declared.Order.{Order}
 use Rattle.fit.specs.Answering.{Asking, AsksRow, FitsRow, UncheckedRow, message_at, ArmsRow}
-use Rattle.machine.specs.Fit.{doing_of, awaits, is_checked, Ready, Letter, fits, unchecked, may_take}
-use Rattle.order.specs.Lists.{every}
+use Rattle.machine.specs.Fit.{doing_of, awaits, is_checked, Letter, fits, unchecked, may_take}
 use Rattle.machine.specs.Offer.{is_cut}
 use Rattle.sight.specs.declared.Sight.{Sight}
 use Rattle.fit.specs.Folds.{folded}
 use Rattle.fit.specs.Lines.{Line, is_ready, ready_at, Stands, Rows}
-use Rattle.sight.specs.Sights.{Marked, Exchanging, Heeding, Told, Tells, no_letter, AwaitsRow, is_send_code, CutRow, cut_line, showing, take_letter, TakesLetter, take_line}
+use Rattle.sight.specs.Sights.{Marked, Exchanging, Heeding, Told, Tells, no_letter, AwaitsRow, CutRow, cut_line, showing, take_letter, TakesLetter, take_line}
 use Rattle.fit.proofs.FitReturns.{asks-asking}
 use Rattle.fit.proofs.OwnKinds.{awaits-kind}
 use Rattle.fit.proofs.SearchReturns.{stands-kind, stands-exchange, and-false}
@@ -36,15 +33,6 @@ scope-open n e d = rw (ne_eqb _ _ e, eq-eqb _ _ d)
 
 pub scope-other : (n : ℕ) → (n ≡ 11 → ⊥) → (n ≡ 12 → ⊥) → eqb n 14 ≡ is_scope_code n
 scope-other n e d = rw (ne_eqb _ _ e, ne_eqb _ _ d)
-
--- `is_send`
-pub send-here : (n : ℕ) → n ≡ 1 → true ≡ is_send_code n
-unfolding is_send_code
-send-here n e = rw (eq-eqb _ _ e)
-
-pub send-other : (n : ℕ) → (n ≡ 1 → ⊥) → eqb n 17 ≡ is_send_code n
-unfolding is_send_code
-send-other n e = rw (ne_eqb _ _ e)
 
 -- `awaits_at`
 module _ (t picks ms : List ℕ) (k : ℕ) where
@@ -88,18 +76,9 @@ cut-own (scope [] false) w k = refl
 cut-own (scope (n ∷ ns) u) w k = refl
 cut-own (arm a b vs) w k = refl
 
-pub cut-raise : (t : List ℕ) (k : ℕ) → get_or t (k * 13) 0 ≡ 4 → CutRow t k true
-cut-raise t k z = record { is = λ ms x y. sym (cut-own x.own x.within x.activity ∙ rw (sym (stands-kind y) ∙ z)) }
-
-pub cut-numbered : (t : List ℕ) (k : ℕ) → get_or t (k * 13) 0 ≡ 13 → CutRow t k true
-cut-numbered t k z = record { is = λ ms x y. sym (cut-own x.own x.within x.activity ∙ rw (sym (stands-kind y) ∙ z)) }
-
-pub cut-leave : (t : List ℕ) (k : ℕ) → (get_or t (k * 13) 0 ≡ 4 → ⊥) → (get_or t (k * 13) 0 ≡ 13 → ⊥) → CutRow t k (eqb (get_or t (k * 13) 0) 5)
-cut-leave t k z v = record {
-  is = λ ms x y.
-      sym (cut-own x.own x.within x.activity
-      ∙ rw (ne_eqb (kind x.own) 4 (λ q. z (stands-kind y ∙ q)), ne_eqb (kind x.own) 13 (λ q. v (stands-kind y ∙ q)), stands-kind y));
-}
+pub cut_code : {t : List ℕ} {k : ℕ} {r : Bool}
+    → r ≡ (eqb (get_or t (k * 13) 0) 4 || (eqb (get_or t (k * 13) 0) 13 || eqb (get_or t (k * 13) 0) 5)) → CutRow t k r
+cut_code e = record { is = λ ms x y. e ∙ sym (cut-own x.own x.within x.activity ∙ rw (stands-kind y)) }
 
 -- `cut_row`
 cut-awaits : (own : Own) (w : Acts) (k : ℕ) (b : Bool) (m : ℕ) → is_cut (record { activity = k; step = doing_of own w k }) ≡ true → awaits own b m ≡ eqb m 1
@@ -122,6 +101,15 @@ cut-awaits (arm a d vs) w k b m e = absurd (false≢true e)
 cond_same : {A : Type 0} (b : Bool) (x : A) → cond b x x ≡ x
 cond_same true x = refl
 cond_same false x = refl
+
+pub cut-already : {t : List ℕ} (marks : List ℕ) {k : ℕ} (c : Bool) → c ≡ true → Rows t k (Marked marks) cut_line c c
+unfolding cut_line
+cut-already marks c z = record { is = λ o p l x g y. rw z (by-test (is_ready o.marks x) (is_cut (ready_at x))) }
+  where
+    by-test : (a b : Bool) → true ≡ cond a (b || true) true
+    by-test true true = refl
+    by-test true false = refl
+    by-test false b = refl
 
 module _ {t : List ℕ} (marks : List ℕ) {k : ℕ} (c : Bool) {d : Bool} (v : CutRow t k d) where
   pub cut-other : d ≡ false → Rows t k (Marked marks) cut_line c c

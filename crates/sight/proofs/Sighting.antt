@@ -1,19 +1,15 @@
 -- The returns of the functions that count a choice down. Assumes nothing.
-use mathlib.Core.Path.{◌≡◌, refl, sym, ap, ◌∙◌}
-use mathlib.Core.Bool.{Bool, true, false, cond, not, ◌&&◌, ◌||◌}
-use mathlib.Core.List.{List, [], ◌∷◌, ◌++◌, map}
-use Prim.Native.Nat.{ℕ, zero, suc, ◌+◌, ◌-◌, ◌<◌, ◌≤◌}
-use native.Mathlib.Omega.{arith}
+use mathlib.Core.Path.{◌≡◌, refl, ◌∙◌}
+use mathlib.Core.Bool.{true, false}
+use Prim.Native.Nat.{ℕ, ◌-◌}
 use borrow.Author.Tests.{eq-eqb, ne_eqb}
-use lib.Dec.{eqb}
 use Rattle.order.specs.declared.End.{End}
 use Rattle.machine.specs.declared.Step.{Step}
-use Rattle.machine.specs.Calls.{refusing, answering}
-use Rattle.machine.specs.Offer.{Offer, offering, Offers}
+use Rattle.machine.specs.Calls.{refusing}
+use Rattle.machine.specs.Offer.{offering}
 use Rattle.sight.specs.declared.Pointer.{Pointer}
 use Rattle.sight.specs.declared.Sight.{Sight}
-use Rattle.fit.specs.Folds.{folded}
-use Rattle.sight.specs.Sights.{pointed, seen, showing, withholding, unseen, Unseen, chosen_by, answered}
+use Rattle.sight.specs.Sights.{pointed, showing, withholding, unseen, Unseen, chosen_by, answered}
 
 -- `pointed_at`
 module _ (i k j : ℕ) (c : Pointer) where

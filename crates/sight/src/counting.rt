@@ -9,54 +9,49 @@ use machine::Step;
 use order::End;
 
 // One more is on offer.
+#[tactic(auto, using(crate::proofs::Sets::pointed_at))]
 fn pointed_at(c: Pointer, slot: usize, activity: usize, place: usize) -> Pointer
     ensures { result ≡ pointed (offering slot activity place) c }
 {
     if c.found {
-        return c;
-    }
-    if c.left == 0 {
-        return Pointer {
+        c
+    } else if c.left == 0 {
+        Pointer {
             left: 0,
             found: true,
             slot,
             activity,
             place,
-        };
-    }
-    Pointer {
-        left: c.left - 1,
-        found: false,
-        slot: c.slot,
-        activity: c.activity,
-        place: c.place,
+        }
+    } else {
+        Pointer {
+            left: c.left - 1,
+            ..c
+        }
     }
 }
 
 // One more is on offer, and seen.
+#[tactic(auto, using(crate::proofs::Sets::shown))]
 pub fn shown(s: Sight, slot: usize, activity: usize, place: usize) -> Sight
     ensures { result ≡ showing slot activity place s }
 {
-    let p = s.pointer;
-    let pointer = pointed_at(p, slot, activity, place);
     Sight {
-        pointer,
-        held: s.held,
+        pointer: pointed_at(s.pointer, slot, activity, place),
+        ..s
     }
 }
 
 // Something is held.
+#[tactic(auto, using(crate::proofs::Sets::withheld))]
 pub fn withheld(s: Sight) -> Sight
     ensures { result ≡ withholding s }
 {
-    let pointer = s.pointer;
-    Sight {
-        pointer,
-        held: true,
-    }
+    Sight { held: true, ..s }
 }
 
 // Nothing was seen yet.
+#[tactic(auto, using(crate::proofs::Sets::nothing_seen))]
 pub fn nothing_seen(choice: usize) -> Sight
     ensures { Unseen choice result }
 {
@@ -87,25 +82,25 @@ pub fn refused(number: u32) -> Step
 }
 
 // What the choice comes to, when all was seen.
+#[tactic(auto, using(crate::proofs::Sets::answer))]
 pub fn answer(choice: usize, s: Sight) -> Step
     ensures { result ≡ answered choice s }
 {
     let p = s.pointer;
     if p.found {
-        return Step {
+        Step {
             refusal: 0,
             slot: p.slot,
             activity: p.activity,
             place: p.place,
             end: End::None,
             fault: 0,
-        };
-    }
-    if p.left == choice {
-        if s.held {
-            return refused(11);
         }
-        return refused(10);
+    } else if p.left != choice {
+        refused(12)
+    } else if s.held {
+        refused(11)
+    } else {
+        refused(10)
     }
-    refused(12)
 }

@@ -7,6 +7,7 @@ use super::rows::offer_row;
 use plan::table::Table;
 
 // What row k has on offer, whatever k is.
+#[tactic(auto, using(crate::proofs::Sets::row_sight))]
 pub fn row_sight(
     table: &Table,
     picks: &[usize; 256],
@@ -26,10 +27,7 @@ pub fn row_sight(
 ) -> Sight
     ensures { Rows table.now k (Opening table.now picks.now marks.now known.now bound.now values.now parts.now kept letters.now waiting least.now) (offer_line cutting waiting slot) s result }
 {
-    if 256 <= k {
-        return s;
-    }
-    if 64 < waiting {
+    if 256 <= k || 64 < waiting {
         return s;
     }
     offer_row(

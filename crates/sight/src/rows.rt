@@ -13,41 +13,35 @@ use plan::kind;
 use plan::table::{Table, WIDTH};
 
 // Whether a kind is that of a scope, with an undo part of its own, with none, or with fault parts by number.
+#[tactic(auto, using(crate::proofs::Sets::is_scope))]
 fn is_scope(kind: u32) -> bool
     ensures { result ≡ is_scope_code kind }
 {
-    if kind == kind::SCOPE {
-        return true;
-    }
-    if kind == kind::OPEN_SCOPE {
-        return true;
-    }
-    kind == kind::NUMBERED_SCOPE
+    matches!(kind, kind::SCOPE | kind::OPEN_SCOPE | kind::NUMBERED_SCOPE)
 }
 
 // Whether a kind is that of a send, to a partner or to the one that a variable holds.
+#[tactic(auto, using(std::proofs::lemmas::Bool::Decides::nat_tests), unfolding(crate::specs::Sights::is_send_code))]
 fn is_send(kind: u32) -> bool
     ensures { result ≡ is_send_code kind }
 {
-    if kind == kind::SEND {
-        return true;
-    }
-    kind == kind::HELD_SEND
+    matches!(kind, kind::SEND | kind::HELD_SEND)
 }
 
 // Whether row k awaits its step.
+#[tactic(auto, using(crate::proofs::Sets::awaits_at))]
 fn awaits_at(table: &Table, picks: &[usize; 256], marks: &[u8; 256], k: usize) -> bool
     requires { k < 256 }
     ensures { AwaitsRow table.now picks.now marks.now k result }
 {
     let kind = table[k * WIDTH];
     if kind == kind::ARM {
-        return arm_open(table, picks, marks, k);
+        arm_open(table, picks, marks, k)
+    } else if is_scope(kind) {
+        marks[k] == 3
+    } else {
+        marks[k] == 1
     }
-    if is_scope(kind) {
-        return marks[k] == 3;
-    }
-    marks[k] == 1
 }
 
 // Whether row k is a raise or a leave.
@@ -56,30 +50,20 @@ fn is_cut(table: &Table, k: usize) -> bool
     ensures { CutRow table.now k result }
 {
     let kind = table[k * WIDTH];
-    if kind == kind::RAISE {
-        return true;
-    }
-    if kind == kind::NUMBERED_RAISE {
-        return true;
-    }
-    kind == kind::LEAVE
+    kind == kind::RAISE || kind == kind::NUMBERED_RAISE || kind == kind::LEAVE
 }
 
 // Whether row k is an active raise or leave, or one was before.
+#[tactic(auto, using(crate::proofs::Sets::cut_row))]
 fn cut_row(table: &Table, marks: &[u8; 256], k: usize, before: bool) -> bool
     requires { k < 256 }
     ensures { Rows table.now k (Marked marks.now) cut_line before result }
 {
-    if is_cut(table, k) {
-        if marks[k] == 1 {
-            return true;
-        }
-        return before;
-    }
-    before
+    before || is_cut(table, k) && marks[k] == 1
 }
 
 // Whether an order has an active raise or leave.
+#[tactic(auto, using(crate::proofs::Sets::cut_rows))]
 pub fn cut_rows(table: &Table, marks: &[u8; 256], activities: usize) -> bool
     ensures { Wholes table.now activities (Marked marks.now) cut_line false result }
 {
@@ -87,15 +71,14 @@ pub fn cut_rows(table: &Table, marks: &[u8; 256], activities: usize) -> bool
         return false;
     }
     let mut c = false;
-    let mut k: usize = 0;
-    while k < activities {
+    for k in 0..activities {
         c = cut_row(table, marks, k, c);
-        k += 1;
     }
     c
 }
 
 // What the message at place j adds at the receive or arm in row k.
+#[tactic(auto, using(crate::proofs::Sets::take_letter))]
 fn take_letter(
     table: &Table,
     slot: usize,
@@ -110,16 +93,15 @@ fn take_letter(
     requires { (k < 256) × (j < 64) }
     ensures { TakesLetter table.now slot k asked.now unchecked letters.now j least s result }
 {
-    if least < unchecked {
-        return s;
+    if unchecked <= least && fits_at(table, k, asked, letters, j) {
+        shown(s, slot, k, j)
+    } else {
+        s
     }
-    if fits_at(table, k, asked, letters, j) {
-        return shown(s, slot, k, j);
-    }
-    s
 }
 
 // What the messages add at the receive or arm in row k.
+#[tactic(auto, using(crate::proofs::Sets::take_row))]
 fn take_row(
     table: &Table,
     known: &[u64; 16],
@@ -136,10 +118,8 @@ fn take_row(
     let asked = asked_at(table, known, k);
     let unchecked = unchecked_at(table, k, &asked);
     let mut c = s;
-    let mut j: usize = 0;
-    while j < waiting {
+    for j in 0..waiting {
         c = take_letter(table, slot, k, &asked, unchecked, letters, j, least[j], c);
-        j += 1;
     }
     c
 }
@@ -153,27 +133,24 @@ fn is_body(part: u8, k: usize) -> bool
 }
 
 // Whether the close in row k, of a scope of this kind, is held: the scope has an undo part, all 32 places are taken, and the close forgets nothing.
+#[tactic(auto, using(crate::proofs::Sets::close_held))]
 fn close_held(kind: u32, parts: &[u8; 32], kept: usize, k: usize) -> bool
     requires { k < 256 }
     ensures { ClosesRow kind parts.now kept k result }
 {
-    if kind == kind::OPEN_SCOPE {
+    if kind == kind::OPEN_SCOPE || kept < 32 {
         return false;
     }
-    if kept < 32 {
-        return false;
-    }
-    let mut i: usize = 0;
-    while i < 32 {
-        if is_body(parts[i], k) {
+    for part in parts {
+        if is_body(*part, k) {
             return false;
         }
-        i += 1;
     }
     true
 }
 
 // What row k has on offer, whether or not it awaits its step.
+#[tactic(auto, using(crate::proofs::Sets::doing_row))]
 fn doing_row(
     table: &Table,
     known: &[u64; 16],
@@ -193,42 +170,28 @@ fn doing_row(
 {
     let kind = table[k * WIDTH];
     if is_send(kind) {
-        if waiting < 64 {
-            return shown(s, slot, k, 0);
+        if 64 <= waiting && may_send(table, k, bound, values) {
+            withheld(s)
+        } else {
+            shown(s, slot, k, 0)
         }
-        if may_send(table, k, bound, values) {
-            return withheld(s);
-        }
-        return shown(s, slot, k, 0);
-    }
-    if kind == kind::RECEIVE {
-        return take_row(table, known, slot, k, letters, waiting, least, s);
-    }
-    if kind == kind::ASKING_RECEIVE {
-        return take_row(table, known, slot, k, letters, waiting, least, s);
-    }
-    if kind == kind::ARM {
-        return take_row(table, known, slot, k, letters, waiting, least, s);
-    }
-    if is_scope(kind) {
+    } else if kind == kind::RECEIVE || kind == kind::ASKING_RECEIVE || kind == kind::ARM {
+        take_row(table, known, slot, k, letters, waiting, least, s)
+    } else if is_scope(kind) {
         if close_held(kind, parts, kept, k) {
-            return withheld(s);
+            withheld(s)
+        } else {
+            shown(s, slot, k, 0)
         }
-        return shown(s, slot, k, 0);
+    } else if kind == kind::NUMBERED_RAISE || kind::SET <= kind && kind <= kind::REPEAT {
+        shown(s, slot, k, 0)
+    } else {
+        s
     }
-    if kind == kind::NUMBERED_RAISE {
-        return shown(s, slot, k, 0);
-    }
-    if kind < kind::SET {
-        return s;
-    }
-    if kind <= kind::REPEAT {
-        return shown(s, slot, k, 0);
-    }
-    s
 }
 
 // What row k has on offer.
+#[tactic(auto, using(crate::proofs::Sets::offer_row))]
 pub(crate) fn offer_row(
     table: &Table,
     picks: &[usize; 256],
@@ -249,23 +212,17 @@ pub(crate) fn offer_row(
     requires { (k < 256) × (waiting ≤ 64) }
     ensures { Rows table.now k (Opening table.now picks.now marks.now known.now bound.now values.now parts.now kept letters.now waiting least.now) (offer_line cutting waiting slot) s result }
 {
-    if awaits_at(table, picks, marks, k) {
-        if cutting {
-            if is_cut(table, k) {
-                return doing_row(
-                    table, known, bound, values, parts, kept, slot, k, letters, waiting, least, s,
-                );
-            }
-            return s;
-        }
-        return doing_row(
+    if awaits_at(table, picks, marks, k) && (!cutting || is_cut(table, k)) {
+        doing_row(
             table, known, bound, values, parts, kept, slot, k, letters, waiting, least, s,
-        );
+        )
+    } else {
+        s
     }
-    s
 }
 
 // What all rows of an order have on offer.
+#[tactic(auto, using(crate::proofs::Sets::offer_rows))]
 pub fn offer_rows(
     table: &Table,
     picks: &[usize; 256],
@@ -285,20 +242,15 @@ pub fn offer_rows(
 ) -> Sight
     ensures { Wholes table.now activities (Opening table.now picks.now marks.now known.now bound.now values.now parts.now kept letters.now waiting least.now) (offer_line cutting waiting slot) s result }
 {
-    if 256 < activities {
-        return s;
-    }
-    if 64 < waiting {
+    if 256 < activities || 64 < waiting {
         return s;
     }
     let mut c = s;
-    let mut k: usize = 0;
-    while k < activities {
+    for k in 0..activities {
         c = offer_row(
             table, picks, marks, known, bound, values, parts, kept, slot, k, cutting, letters,
             waiting, least, c,
         );
-        k += 1;
     }
     c
 }

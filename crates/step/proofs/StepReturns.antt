@@ -9,8 +9,9 @@ use borrow.Author.Tests.{eq-eqb, ne_eqb}
 use lib.Dec.{eqb}
 use lib.ListN.{length, get_or, take, drop, drop_of_length-le}
 use lib.Seq.{drop-cons}
-use Rattle.plan.specs.declared.Answer.{Answer}
-use Rattle.plan.specs.declared.Answer.TheVariants.{Accepted}
+use Rattle.std.specs.Prelude.{Result, Ok, Err}
+use Rattle.plan.specs.declared.Accepted.{Accepted}
+use Rattle.plan.specs.declared.Refusal.{Refusal}
 use Rattle.plan.specs.Answers.{answer_of, table_for, flags_for}
 use Rattle.plan.specs.Found.{Found, refused, found}
 use Rattle.plan.specs.Table.{table_of, flags_of}
@@ -112,14 +113,14 @@ module _ {t flags : List ℕ} {n : ℕ} {s : State} {c : ℕ} (y : Tally) {x : S
   step-refused q e = by-refusal s y q e (λ h. step_stays h c y (a.is h) q)
 
 -- `take_step`: a state that earns 17, and one that has a plan
-module _ (s : State) {a : Answer} (e : a ≡ answer_of (plan_in s)) where
-  pub step-unplanned : (c : ℕ) (y : Tally) {number place : ℕ} → a ≡ Answer.Refused number place → {x : Step} → x ≡ refusing 17
+module _ (s : State) {a : Result Accepted Refusal} (e : a ≡ answer_of (plan_in s)) where
+  pub step-unplanned : (c : ℕ) (y : Tally) {bad : Refusal} → a ≡ Err bad → {x : Step} → x ≡ refusing 17
       → ◌≡◌ {A = Stepped} (record { answer = x; state = s; tally = y }) (bare (step c s y))
   unfolding step
   step-unplanned c y o q = rw (q, answer-no (plan_in s) e o)
 
-  module _ {c : ℕ} {y : Tally} {v k n : ℕ} {t flags : List ℕ} {r : Change} (o : a ≡ Accepted v k n) (q : t ≡ table_for (plan_in s)) (f : flags ≡ flags_for (plan_in s))
-      (l : length s.messages ≡ 64) (x : StepsBy t flags k s c y r) where
+  module _ {c : ℕ} {y : Tally} {good : Accepted} {t flags : List ℕ} {r : Change} (o : a ≡ Ok good) (q : t ≡ table_for (plan_in s)) (f : flags ≡ flags_for (plan_in s))
+      (l : length s.messages ≡ 64) (x : StepsBy t flags good.activities s c y r) where
     pub step_left : (r.answer.refusal ≡ 0 → ⊥) → ◌≡◌ {A = Stepped} (record { answer = r.answer; state = s; tally = r.tally }) (bare (step c s y))
     step_left z = rw (put_refused s r z) at (x.is (has-from s e o q f l))
 

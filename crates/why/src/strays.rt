@@ -1,6 +1,5 @@
 // The messages that no receive of the plan can ever take, and those that no order can take now.
 use drawing::Out;
-use fit::Receiver;
 use machine::{Message, State};
 use order::Order;
 use plan::table::Table;
@@ -50,13 +49,9 @@ fn taker_of(
     letters: &[u32; 512],
     j: usize,
 ) -> u32 {
-    let r = fit::search::first_receiver(table, flags, picks, orders, activities, letters, j);
-    match r {
-        Receiver::At {
-            slot: _,
-            activity: _,
-        } => 1,
-        Receiver::Nothing => {
+    match fit::search::first_receiver(table, flags, picks, orders, activities, letters, j) {
+        Some(_) => 1,
+        None => {
             if starts(table, flags, picks, activities, letters, j) {
                 return 2;
             }

@@ -4,11 +4,11 @@ use Rattle.machine.proofs.load.Goals as goal
 
 ruleset cases = (load-no, load-yes, load-short)
 
-pub fresh_state-state-requires-in-Accepted : goal.fresh_state-state-requires-in-Accepted
-fresh_state-state-requires-in-Accepted c = search cases
+pub fresh_state-requires-in-Ok : goal.fresh_state-requires-in-Ok
+fresh_state-requires-in-Ok c = search cases
 
-pub returns-in-Refused : goal.returns-in-Refused
-returns-in-Refused c = search cases
+pub returns-in-Err : goal.returns-in-Err
+returns-in-Err c = search cases
 
-pub returns-in-Accepted : goal.returns-in-Accepted
-returns-in-Accepted c = search cases
+pub returns-in-Ok : goal.returns-in-Ok
+returns-in-Ok c = search cases

@@ -7,8 +7,8 @@ ruleset cases = (drop-unplanned, collect-limits, drop-planned)
 pub handed-requires : goal.handed-requires
 handed-requires c = search cases
 
-pub returns-in-Refused : goal.returns-in-Refused
-returns-in-Refused c = search cases
+pub returns-in-Err : goal.returns-in-Err
+returns-in-Err c = search cases
 
-pub returns-in-Accepted : goal.returns-in-Accepted
-returns-in-Accepted c = search cases
+pub returns-in-Ok : goal.returns-in-Ok
+returns-in-Ok c = search cases

@@ -1,11 +1,7 @@
 -- `fit::fitness::asked_at` meets its contract. Assumes nothing.
-use Prim.Native.Nat.{◌-◌}
 use Rattle.fit.proofs.Filled.{Filling}
 use Rattle.fit.proofs.FitReturns.{Asked}
 use Rattle.fit.proofs.fitness.asked_at.Given as goal
 
 abbrev pub invariant-loop-i : goal.invariant-loop-i
 invariant-loop-i l = Filling (Asked l.table l.known l.k) 4 l.out l.i
-
-abbrev pub decreases-loop-i : goal.decreases-loop-i
-decreases-loop-i l = 4 - l.i

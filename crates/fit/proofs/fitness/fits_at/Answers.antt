@@ -1,26 +1,16 @@
 -- `fit::fitness::fits_at` meets its contract. Assumes nothing.
-use Rattle.fit.proofs.FitReturns.{fits-beyond, fits-nothing, fits-partner, fits-operation, fits_count, fits-many, fits-values}
+use Rattle.std.proofs.Common.{◌≡◌, true, false, arith}
+use Rattle.std.proofs.lemmas.Bool.Decides.{nat_tests}
+use Rattle.fit.proofs.FitReturns.{head_fits, fits-values, fits-other}
 use Rattle.fit.proofs.fitness.fits_at.Goals as goal
 
-ruleset cases = (fits-beyond, fits-nothing, fits-partner, fits-operation, fits_count, fits-many, fits-values)
+pub returns-then-count-le4 : goal.returns-then-count-le4
+returns-then-count-le4 c =
+    let e : head_fits c.args.table.now c.args.k c.args.letters.now c.args.j ≡ true = grind (arith, nat_tests) in
+    fits-values e c.agrees_at.ensures
 
-pub returns-then-k-ge256 : goal.returns-then-k-ge256
-returns-then-k-ge256 c = search cases
-
-pub returns-then-j-ge64 : goal.returns-then-j-ge64
-returns-then-j-ge64 c = search cases
-
-pub returns-then-letters-j : goal.returns-then-letters-j
-returns-then-letters-j c = search cases
-
-pub returns-then-letters-j-2 : goal.returns-then-letters-j-2
-returns-then-letters-j-2 c = search cases
-
-pub returns-then-count-table : goal.returns-then-count-table
-returns-then-count-table c = search cases
-
-pub returns-then-count-gt4 : goal.returns-then-count-gt4
-returns-then-count-gt4 c = search cases
-
-pub returns : goal.returns
-returns c = search cases
+pub returns-else-count-le4 : goal.returns-else-count-le4
+returns-else-count-le4 c =
+    let e : head_fits c.args.table.now c.args.k c.args.letters.now c.args.j ≡ false = grind (arith, nat_tests) in
+    let f : c.if-count-table.value ≡ false = grind (arith, nat_tests) in
+    rw f (fits-other e)

@@ -1,5 +1,4 @@
 -- `fit::fitness::unchecked_at` meets its contract. Assumes nothing.
-use Prim.Native.Nat.{◌-◌}
 use Prim.Native.Nat.{◌+◌, ◌*◌}
 use lib.ListN.{get_or}
 use Rattle.fit.proofs.FitReturns.{Counting}
@@ -7,6 +6,3 @@ use Rattle.fit.proofs.fitness.unchecked_at.Given as goal
 
 abbrev pub invariant-loop-i : goal.invariant-loop-i
 invariant-loop-i l = Counting l.table l.k l.asked (get_or l.table (l.k * 13 + 3) 0) l.n l.i
-
-abbrev pub decreases-loop-i : goal.decreases-loop-i
-decreases-loop-i l = l.many - l.i

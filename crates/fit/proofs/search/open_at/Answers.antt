@@ -1,17 +1,12 @@
 -- `fit::search::open_at` meets its contract. Assumes nothing.
-use Rattle.fit.proofs.SearchReturns.{opens-receive, opens-asking, opens-arm, opens-other}
+use Rattle.std.proofs.Common.{◌≡◌, ◌*◌, get_or, arith}
+use Rattle.fit.proofs.SearchReturns.{opens-other}
 use Rattle.fit.proofs.search.open_at.Goals as goal
 
-ruleset cases = (opens-receive, opens-asking, opens-arm, opens-other)
-
-pub returns-then-kind-eq-RECEIVE : goal.returns-then-kind-eq-RECEIVE
-returns-then-kind-eq-RECEIVE c = search cases
-
-pub returns-then-kind-eq-ASKING_RECEIVE : goal.returns-then-kind-eq-ASKING_RECEIVE
-returns-then-kind-eq-ASKING_RECEIVE c = search cases
-
-pub returns-then-kind-eq-ARM : goal.returns-then-kind-eq-ARM
-returns-then-kind-eq-ARM c = search cases
-
-pub returns : goal.returns
-returns c = search cases
+pub returns-in_default : goal.returns-in_default
+returns-in_default c =
+    let n = get_or c.args.table.now (c.args.k * 13) 0 in
+    let z : n ≡ 2 → ⊥ = grind arith in
+    let u : n ≡ 18 → ⊥ = grind arith in
+    let v : n ≡ 255 → ⊥ = omega arith in
+    opens-other _ _ _ _ z u v

@@ -1,11 +1,7 @@
 -- `fit::search::picks_of` meets its contract. Assumes nothing.
-use Prim.Native.Nat.{◌-◌}
 use Rattle.fit.specs.Answering.{PicksRow}
 use Rattle.fit.proofs.Filled.{Filling}
 use Rattle.fit.proofs.search.picks_of.Given as goal
 
 abbrev pub invariant-loop-k : goal.invariant-loop-k
 invariant-loop-k l = Filling (PicksRow l.table) 256 l.out l.k
-
-abbrev pub decreases-loop-k : goal.decreases-loop-k
-decreases-loop-k l = 256 - l.k

@@ -1,6 +1,5 @@
 -- `listing::letters::list_letters` meets its contract. Assumes nothing.
 use borrow.Author.Rules.{rules}
-use Prim.Native.Nat.{◌-◌}
 use Rattle.offer.proofs.Starting.{starting-starts, starting-again, starting-done}
 use Rattle.listing.proofs.Asked.{letter-lists}
 use Rattle.listing.proofs.letters.list_letters.Goals as goal

@@ -7,5 +7,5 @@ ruleset cases = (lesser-left, lesser-skip)
 pub returns-then-left-skip : goal.returns-then-left-skip
 returns-then-left-skip c = search cases
 
-pub returns : goal.returns
-returns c = search cases
+pub returns-else-left-skip : goal.returns-else-left-skip
+returns-else-left-skip c = search cases

@@ -1,6 +1,5 @@
 -- `listing::rows::list_rows` meets its contract. Assumes nothing.
 use borrow.Author.Rules.{rules}
-use Prim.Native.Nat.{◌-◌}
 use Rattle.fit.proofs.Lines.{rowing-starts, rowing-again, rowing-done}
 use Rattle.listing.proofs.Asked.{row-lists}
 use Rattle.listing.proofs.rows.list_rows.Goals as goal

@@ -1,5 +1,4 @@
 -- `listing::rows::list_rows` meets its contract. Assumes nothing.
-use Prim.Native.Nat.{◌-◌}
 use mathlib.Core.Path.{◌≡◌}
 use lib.ListN.{length}
 use Rattle.fit.proofs.Lines.{Rowing}
@@ -11,6 +10,3 @@ use Rattle.listing.proofs.rows.list_rows.Given as goal
 abbrev pub invariant-loop-k : goal.invariant-loop-k
 invariant-loop-k l = Rowing l.table l.activities (Opening l.table l.picks l.marks l.known l.bound l.values l.parts l.kept l.letters l.waiting l.least) (act_line listing l.cutting l.waiting l.slot)
     (holding l.initial.c.skip l.initial.c.at l.initial.out) l.k (holding l.c.skip l.c.at l.out) × (length l.out ≡ length l.initial.out)
-
-abbrev pub decreases-loop-k : goal.decreases-loop-k
-decreases-loop-k l = l.activities - l.k

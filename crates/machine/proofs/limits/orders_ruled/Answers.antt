@@ -1,19 +1,12 @@
--- `machine::limits::orders_ruled` meets its contract. The loop's invariant: what is left to decide is whether the test holds of each that is left. Assumes nothing.
-use Prim.Native.Nat.{◌-◌}
-use mathlib.Core.Path.{refl}
-use Rattle.machine.proofs.Ruled.{tested-done, call-fails, call-holds}
+-- `machine::limits::orders_ruled` meets its contract. Assumes nothing.
+use Rattle.std.proofs.Common.{◌∙◌, rules, tests}
+use Rattle.std.proofs.lemmas.Iterator.{YieldsList-from_slice}
+use Rattle.std.proofs.lemmas.Iterator.Search.{all_from_yields_List}
+use Rattle.machine.specs.Limits.{order_in_limits}
+use Rattle.machine.proofs.Tests.{every_all}
 use Rattle.machine.proofs.limits.orders_ruled.Goals as goal
 
-ruleset cases = (tested-done, call-fails, call-holds)
-
-pub loop-i-init : goal.loop-i-init
-loop-i-init c = record { long = c.well_formed.0.1.0.1; same = refl }
-
-pub returns-then-not-order_ruled : goal.returns-then-not-order_ruled
-returns-then-not-order_ruled c = search cases
-
-pub loop-i-preserved : goal.loop-i-preserved
-loop-i-preserved c = search cases
-
 pub returns : goal.returns
-returns c = search cases
+returns c =
+    all_from_yields_List order_in_limits _ _ _ c.all.ensures.ran (YieldsList-from_slice c.args.orders cc) (λ x b q k. search (rules, tests))
+    ∙ every_all order_in_limits c.args.orders

@@ -1,19 +1,17 @@
--- `machine::limits::rest_zero` meets its contract. The loop's invariant: what is left to decide is whether the test holds of each that is left. Assumes nothing.
-use Prim.Native.Nat.{◌-◌}
-use mathlib.Core.Path.{refl}
-use Rattle.machine.proofs.Ruled.{tested-done, zero-fails, zero-holds}
+-- `machine::limits::rest_zero` meets its contract. Assumes nothing.
+use Rattle.std.proofs.Common.{◌≡◌, ℕ, ◌∙◌, drop, eqb, arith, rules, tests}
+use Rattle.std.proofs.lemmas.Bool.Decides.{nat_tests}
+use Rattle.std.proofs.lemmas.Iterator.{YieldsList-from_slice}
+use Rattle.std.proofs.lemmas.Iterator.Adapters.{YieldsList-from_skip}
+use Rattle.std.proofs.lemmas.Iterator.Search.{all_from_yields_List}
+use Rattle.machine.proofs.Tests.{every_as}
 use Rattle.machine.proofs.limits.rest_zero.Goals as goal
 
-ruleset cases = (tested-done, zero-fails, zero-holds)
-
-pub loop-i-init : goal.loop-i-init
-loop-i-init c = record { long = c.well_formed.0.1.0.1; same = refl }
-
-pub returns-then-values-i-gt0 : goal.returns-then-values-i-gt0
-returns-then-values-i-gt0 c = search cases
-
-pub loop-i-preserved : goal.loop-i-preserved
-loop-i-preserved c = search cases
+turned : (x : ℕ) → eqb x 0 ≡ eqb 0 x
+turned x = grind (arith, nat_tests)
 
 pub returns : goal.returns
-returns c = search cases
+returns c =
+    all_from_yields_List (λ x. eqb x 0) _ _ _ c.all.ensures.ran (YieldsList-from_skip c.args.count (YieldsList-from_slice c.args.values cc) cc)
+    (λ x b q k. search (rules, tests))
+    ∙ every_as (λ x. eqb x 0) (eqb 0) turned (drop c.args.count c.args.values)

@@ -1,10 +1,6 @@
 -- `offer::slots::could_start` meets its contract. Assumes nothing.
-use Prim.Native.Nat.{◌-◌}
 use Rattle.offer.proofs.Starting.{Passing}
 use Rattle.offer.proofs.slots.could_start.Given as goal
 
 abbrev pub invariant-loop-k : goal.invariant-loop-k
 invariant-loop-k l = Passing l.table l.picks l.marks l.known l.activities l.letters l.j l.k
-
-abbrev pub decreases-loop-k : goal.decreases-loop-k
-decreases-loop-k l = l.activities - l.k

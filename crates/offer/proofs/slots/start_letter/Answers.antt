@@ -1,14 +1,15 @@
 -- `offer::slots::start_letter` meets its contract. Assumes nothing.
-use Rattle.offer.proofs.Starting.{start-unlike, start-not, start-may}
+use Rattle.std.proofs.Common.{◌≡◌, ◌∙◌, ap, not, true}
+use Rattle.std.specs.Option.{is_some}
+use Rattle.offer.proofs.Sets.{start_letter}
 use Rattle.offer.proofs.slots.start_letter.Goals as goal
-
-ruleset cases = (start-unlike, start-not, start-may)
-
-pub returns-in-At : goal.returns-in-At
-returns-in-At c = search cases
-
-pub returns-in-Nothing : goal.returns-in-Nothing
-returns-in-Nothing c = search cases
+use Rattle.offer.proofs.slots.start_letter.Goals.{else-could_start-via-then-could_start+else-is_none, else-could_start-via-else-could_start}
 
 pub returns-else-could_start : goal.returns-else-could_start
-returns-else-could_start c = search cases
+returns-else-could_start c =
+    elim c.else-could_start.branch [
+      | else-could_start-via-then-could_start+else-is_none w ↦
+          let e : is_some w.first_receiver.result ≡ true = w.is_none.ensures ∙ ap not w.if-is_none.false in
+          search start_letter
+      | else-could_start-via-else-could_start w ↦ search start_letter
+    ]

@@ -1,5 +1,4 @@
 -- `offer::slots::start_rows` meets its contract. Assumes nothing.
-use Prim.Native.Nat.{◌-◌}
 use Rattle.fit.specs.Answering.{message_at}
 use Rattle.fit.specs.Receiving.{Lent}
 use Rattle.offer.specs.Seeing.{start_line}
@@ -8,6 +7,3 @@ use Rattle.offer.proofs.slots.start_rows.Given as goal
 
 abbrev pub invariant-loop-k : goal.invariant-loop-k
 invariant-loop-k l = Rowing l.table l.activities (Lent l.table l.picks l.marks l.known) (start_line l.free l.j (message_at l.letters l.j)) l.initial.c l.k l.c
-
-abbrev pub decreases-loop-k : goal.decreases-loop-k
-decreases-loop-k l = l.activities - l.k

@@ -1,17 +1,19 @@
 -- `sight::rows::offer_row` meets its contract. Assumes nothing.
-use Rattle.sight.proofs.RowSeen.{offer-idle, offer-free, offer-cut, offer-aside}
+use Rattle.std.proofs.Common.{◌≡◌, true, false}
+use Rattle.sight.proofs.Sets.{offer_row}
 use Rattle.sight.proofs.rows.offer_row.Goals as goal
+use Rattle.sight.proofs.rows.offer_row.Goals.{else-awaits_at-via-then-awaits_at+else-is_cut, then-not-cutting, else-not-cutting, else-awaits_at-via-else-awaits_at}
 
-ruleset cases = (offer-idle, offer-free, offer-cut, offer-aside)
-
-pub returns-then-is_cut : goal.returns-then-is_cut
-returns-then-is_cut c = search cases
-
-pub returns-then-cutting : goal.returns-then-cutting
-returns-then-cutting c = search cases
-
-pub returns-then-awaits_at : goal.returns-then-awaits_at
-returns-then-awaits_at c = search cases
-
-pub returns : goal.returns
-returns c = search cases
+pub returns-else-awaits_at : goal.returns-else-awaits_at
+returns-else-awaits_at c =
+    elim c.else-awaits_at.branch [
+      | else-awaits_at-via-then-awaits_at+else-is_cut w ↦
+          elim w.if-not-cutting.branch [
+            | then-not-cutting v ↦ cc
+            | else-not-cutting v ↦
+                let z : c.args.cutting ≡ true = v.if-not-cutting.false in
+                let q : v.is_cut.result ≡ false = cc in
+                search offer_row
+          ]
+      | else-awaits_at-via-else-awaits_at w ↦ search offer_row
+    ]
