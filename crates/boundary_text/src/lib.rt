@@ -28,7 +28,10 @@ fn answer_of(rows: &[u32], length: usize, plan: &mut [u8]) -> Answer {
     if length <= rows.len() {
         return writer::write(&rows[0..length], plan);
     }
-    Err(Refusal { number: 2, place: 0 })
+    Err(Refusal {
+        number: 2,
+        place: 0,
+    })
 }
 
 fn written(rows: &[u32; 87100], length: usize, lines: &[u32; 4355], plan: &mut [u8]) -> u64 {

@@ -11,11 +11,12 @@ ghost use Rattle.writer.specs.Written.{answer_for, bytes_for, rows_answer, rows_
 use writer::Answer;
 
 // An answer as one number.
+#[tactic(auto, unfolding(crate::specs::Packed::answer_number))]
 fn number_of(a: Answer) -> u64
     ensures { result ≡ answer_number a }
 {
     match a {
-        Err(why) => (why.number as u64) * 4294967296 + (why.place as u64) % 4294967296,
+        Err(why) => u64::from(why.number) * 4294967296 + (why.place as u64) % 4294967296,
         Ok(length) => (length as u64) % 4294967296,
     }
 }

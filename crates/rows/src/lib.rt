@@ -21,7 +21,10 @@ pub fn rows(s: &[u8], out: &mut [u32]) -> Answer
     let plan = plan::accept_over(s, &mut table, &mut correlation)?;
     let left = plan.activities + plan.nodes + cut::between(&table, plan.activities);
     if out.len() / 20 <= left {
-        return Err(Refusal { number: 18, place: 0 });
+        return Err(Refusal {
+            number: 18,
+            place: 0,
+        });
     }
     cut::put_rows(s, &table, left, out);
     Ok((left + 1) * 20)
