@@ -82,10 +82,10 @@ fn put_shown(part: &[u8], refusal: u32, out: &mut Out, used: usize) -> usize {
 }
 
 fn put_show(s: &[u8], k: u32, out: &mut Out, used: usize) -> usize {
-    let mut start: usize = 0;
-    let mut refusal = 0u32;
-    let part = show::show(s, k as usize, &mut start, &mut refusal);
-    put_shown(part, refusal, out, used)
+    match show::show(s, k as usize) {
+        Ok(shown) => put_shown(shown.part, 0, out, used),
+        Err(refusal) => put_shown(b"", refusal, out, used),
+    }
 }
 
 // The same of the last plan.
