@@ -68,21 +68,16 @@ fn put_draw(s: &[u8], names: &[u8; 16896], drawn: bool, out: &mut Out) {
 }
 
 // What a show finds, after its refusal.
-fn put_shown(part: &[u8], refusal: u32, out: &mut Out) {
+fn put_show(s: &[u8], k: u32, out: &mut Out) {
     out.put(b"show ");
-    out.put_number(refusal as u64);
-    if refusal == 0 {
-        out.put_byte(b' ');
-        out.put_hex(part);
+    match show::show(s, k as usize) {
+        Ok(shown) => {
+            out.put(b"0 ");
+            out.put_hex(shown.part);
+        }
+        Err(refusal) => out.put_number(u64::from(refusal)),
     }
     out.put_byte(b'\n');
-}
-
-fn put_show(s: &[u8], k: u32, out: &mut Out) {
-    let mut start: usize = 0;
-    let mut refusal = 0u32;
-    let part = show::show(s, k as usize, &mut start, &mut refusal);
-    put_shown(part, refusal, out);
 }
 
 // The last plan drawn, with what it is called.
