@@ -9,12 +9,6 @@ use ordinary::Kind;
 pub use paging::page;
 use papers::Desk;
 
-// What is not done, and why.
-fn not_done(desk: &mut Desk, number: u64, why: &[u8]) {
-    desk.out.put_error(number, why);
-    desk.fail();
-}
-
 // Whether the file is the one that this desk saved or opened last, and holds something else now: another desk saved it since.
 fn is_anothers(desk: &Desk, file: &[u8]) -> bool {
     match desk.filed {
@@ -28,8 +22,7 @@ fn is_anothers(desk: &Desk, file: &[u8]) -> bool {
 // A save over an ordinary file.
 fn replacing(desk: &mut Desk, file: &[u8], number: u64) {
     if is_anothers(desk, file) {
-        not_done(
-            desk,
+        desk.error(
             number,
             b"cannot save: another desk has saved it since: say save! to replace it",
         );
@@ -55,18 +48,14 @@ fn replaced(desk: &mut Desk, file: &[u8], number: u64) {
 
 // A save over a file that holds a plan: a desk without one is likely to have forgotten to open it.
 fn over_plan(desk: &mut Desk, file: &[u8], number: u64) {
-    let state = desk.state;
-    if state.length == 0 {
-        if !desk.bold {
-            not_done(
-                desk,
-                number,
-                b"cannot save: the file has a plan, and the desk has none: say save! to replace it",
-            );
-            return;
-        }
+    if desk.state.length == 0 && !desk.bold {
+        desk.error(
+            number,
+            b"cannot save: the file has a plan, and the desk has none: say save! to replace it",
+        );
+    } else {
+        replacing(desk, file, number);
     }
-    replacing(desk, file, number);
 }
 
 // Saves the state.
@@ -74,14 +63,13 @@ pub fn save(desk: &mut Desk, file: &[u8], number: u64) {
     if !desk.spoken {
         papers::save(desk, file, number);
     } else {
-        let k = ordinary::kind_of(desk.out.runtime(), file);
-        match k {
+        match ordinary::kind_of(desk.out.runtime(), file) {
             Kind::Nothing => papers::save(desk, file, number),
             Kind::Ordinary => replacing(desk, file, number),
             Kind::Plan => over_plan(desk, file, number),
-            Kind::Folder => not_done(desk, number, b"cannot save: it is a folder"),
-            Kind::Link => not_done(desk, number, b"cannot save: it is a link"),
-            Kind::Other => not_done(desk, number, b"cannot save: it is no ordinary file"),
+            Kind::Folder => desk.error(number, b"cannot save: it is a folder"),
+            Kind::Link => desk.error(number, b"cannot save: it is a link"),
+            Kind::Other => desk.error(number, b"cannot save: it is no ordinary file"),
         }
     }
 }

@@ -15,25 +15,17 @@ pub(crate) enum Kind {
     Other,
 }
 
+// Whether a name is that of a link; one that is too long is of nothing.
 fn is_link(runtime: HostRuntime, file: &[u8]) -> bool {
-    if 4095 < file.len() {
-        return false;
-    }
-    system::is_link(runtime, file)
+    file.len() <= 4095 && system::is_link(runtime, file)
 }
 
 // In an ordinary file one may go beyond its end; in a device or a pipe not. One of 2 GiB or more is none that the desk would replace.
 fn is_ordinary(opened: &File) -> bool {
     let mut file = opened;
-    let Ok(end) = file.seek(SeekFrom::End(0)) else {
-        return false;
-    };
-    if 2147483646 < end {
-        return false;
-    }
-    match file.seek(SeekFrom::Start(2147483647)) {
-        Ok(at) => at == 2147483647,
-        Err(_) => false,
+    match file.seek(SeekFrom::End(0)) {
+        Ok(0..=2147483646) => matches!(file.seek(SeekFrom::Start(2147483647)), Ok(2147483647)),
+        _ => false,
     }
 }
 
@@ -44,42 +36,25 @@ fn has_plan(opened: &File) -> bool {
     let _ = file.seek(SeekFrom::Start(0));
     let n = system::read_full(opened, &mut front);
     let kept = papers::kept_front(&front[..n]);
-    if kept.refused {
-        return false;
-    }
-    let state = kept.state;
-    0 < state.length
+    !kept.refused && 0 < kept.state.length
 }
 
 fn kind_at(opened: &File) -> Kind {
     if !is_ordinary(opened) {
-        return Kind::Other;
+        Kind::Other
+    } else if has_plan(opened) {
+        Kind::Plan
+    } else {
+        Kind::Ordinary
     }
-    if has_plan(opened) {
-        return Kind::Plan;
-    }
-    Kind::Ordinary
 }
 
 // A pipe would wait for its other end if it were opened to read alone.
 fn opened(runtime: HostRuntime, file: &[u8]) -> Result<File, i32> {
     match system::open_update(runtime, file) {
-        Ok(opened) => Ok(opened),
-        Err(reason) => {
-            if reason == DENIED {
-                return system::open_read(runtime, file);
-            }
-            Err(reason)
-        }
+        Err(DENIED) => system::open_read(runtime, file),
+        other => other,
     }
-}
-
-// What could not be opened.
-fn kind_unopened(reason: i32) -> Kind {
-    if reason == FOLDER {
-        return Kind::Folder;
-    }
-    Kind::Nothing
 }
 
 pub(crate) fn kind_of(runtime: HostRuntime, file: &[u8]) -> Kind {
@@ -88,7 +63,8 @@ pub(crate) fn kind_of(runtime: HostRuntime, file: &[u8]) -> Kind {
     }
     match opened(runtime, file) {
         Ok(opened) => kind_at(&opened),
-        Err(reason) => kind_unopened(reason),
+        Err(FOLDER) => Kind::Folder,
+        Err(_) => Kind::Nothing,
     }
 }
 

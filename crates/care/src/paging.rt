@@ -1,7 +1,7 @@
 // The state as a page in a file, for a browser. It is written whole to a new file, which then takes the name: so who looks at the page sees the one before or
 // this one, and never half of one.
 use super::ordinary::Kind;
-use super::{not_done, ordinary, retaining};
+use super::{ordinary, retaining};
 use drawing::Out;
 use papers::{Desk, name_with, replaced_by, system};
 use std::fs::File;
@@ -50,7 +50,7 @@ fn made(desk: &mut Desk, file: &[u8], number: u64) {
 // The page over a file that is none, which stays as FILE.old; only where that is said.
 fn over_other(desk: &mut Desk, file: &[u8], number: u64, why: &[u8]) {
     if !desk.bold {
-        not_done(desk, number, why);
+        desk.error(number, why);
     } else if let Err(reason) = retaining::retained(desk.out.runtime(), file) {
         papers::put_failed(
             &mut desk.out,
@@ -83,8 +83,7 @@ pub fn page(desk: &mut Desk, file: &[u8], number: u64) {
     if !desk.spoken {
         made(desk, file, number);
     } else {
-        let k = ordinary::kind_of(desk.out.runtime(), file);
-        match k {
+        match ordinary::kind_of(desk.out.runtime(), file) {
             Kind::Nothing => made(desk, file, number),
             Kind::Ordinary => over_ordinary(desk, file, number),
             Kind::Plan => over_other(
@@ -93,13 +92,9 @@ pub fn page(desk: &mut Desk, file: &[u8], number: u64) {
                 number,
                 b"cannot write the page: the file holds a saved plan: say page! to replace it",
             ),
-            Kind::Folder => not_done(desk, number, b"cannot write the page: it is a folder"),
-            Kind::Link => not_done(desk, number, b"cannot write the page: it is a link"),
-            Kind::Other => not_done(
-                desk,
-                number,
-                b"cannot write the page: it is no ordinary file",
-            ),
+            Kind::Folder => desk.error(number, b"cannot write the page: it is a folder"),
+            Kind::Link => desk.error(number, b"cannot write the page: it is a link"),
+            Kind::Other => desk.error(number, b"cannot write the page: it is no ordinary file"),
         }
     }
 }

@@ -7,10 +7,9 @@ mod taking;
 
 pub use answering::wrong;
 use commands::{Alone, Command, Listed, Numbered, Worded};
-pub use lists::{Numbers, before, numbers_of, reply_in, rest_of};
-use machine::{State, Tally};
+pub use lists::{before, reply_in};
 use papers::Desk;
-pub use taking::{message_of, put_collected, put_step, put_tally};
+pub use taking::{message_of, put_collected, put_step, put_tally, running};
 
 // A command that stands alone. (The lines after a write are its caller's to gather: here it has none.)
 fn answer_alone(desk: &mut Desk, what: Alone, number: u64) {
@@ -20,23 +19,11 @@ fn answer_alone(desk: &mut Desk, what: Alone, number: u64) {
         Alone::Check => papers::check(desk),
         Alone::Write => papers::write(desk, b"", number),
         Alone::Collect => taking::collect(desk),
-        Alone::Offer | Alone::Waiting | Alone::Tally | Alone::Orders | Alone::Offers => {
-            put_alone(desk, what);
-        }
-    }
-}
-
-// One that changes nothing.
-fn put_alone(desk: &mut Desk, what: Alone) {
-    let state = desk.state;
-    let tally = desk.tally;
-    match what {
-        Alone::Offer => wording::put_offer(&mut desk.out, state),
-        Alone::Waiting => wording::put_waiting(&mut desk.out, state),
-        Alone::Tally => taking::put_tally(&mut desk.out, tally),
-        Alone::Orders => wording::put_orders(&mut desk.out, &desk.names, state),
-        Alone::Offers => wording::put_offers(&mut desk.out, &desk.names, state),
-        Alone::Draw | Alone::Collect | Alone::Names | Alone::Check | Alone::Write => {}
+        Alone::Offer => wording::put_offer(&mut desk.out, desk.state),
+        Alone::Waiting => wording::put_waiting(&mut desk.out, desk.state),
+        Alone::Tally => taking::put_tally(&mut desk.out, desk.tally),
+        Alone::Orders => wording::put_orders(&mut desk.out, &desk.names, desk.state),
+        Alone::Offers => wording::put_offers(&mut desk.out, &desk.names, desk.state),
     }
 }
 
@@ -53,11 +40,9 @@ fn answer_worded(desk: &mut Desk, what: Worded, word: &[u8], number: u64) {
 // The order in a slot.
 fn answer_order(desk: &mut Desk, slot: u32, number: u64) {
     if 15 < slot {
-        desk.out.put_error(number, b"the slots are 0 to 15");
-        desk.fail();
+        desk.error(number, b"the slots are 0 to 15");
     } else {
-        let state = desk.state;
-        wording::put_order(&mut desk.out, &desk.names, state, slot as usize);
+        wording::put_order(&mut desk.out, &desk.names, desk.state, slot as usize);
     }
 }
 
@@ -78,17 +63,14 @@ fn answer_listed(desk: &mut Desk, what: Listed, line: &[u8], from: usize, number
     }
 }
 
-// The answer to a line, whose number is `number`. The last plan stands in `bytes`, and its names, where it was written with some, in `names`.
+// The answer to a line, whose number is `number`.
 pub fn answer(desk: &mut Desk, line: &[u8], number: u64) {
     match commands::command_of(line) {
         Ok(Command::Nothing) => {}
         Ok(Command::Alone { what }) => answer_alone(desk, what, number),
-        Ok(Command::Worded { what, from, to }) => answer_worded(
-            desk,
-            what,
-            &line[from..to],
-            number,
-        ),
+        Ok(Command::Worded { what, from, to }) => {
+            answer_worded(desk, what, line.get(from..to).unwrap_or(b""), number);
+        }
         Ok(Command::Numbered { what, k }) => answer_numbered(desk, what, k, number),
         Ok(Command::Listed { what, from }) => answer_listed(desk, what, line, from, number),
         Err(why) => wrong(desk, number, why),

@@ -1,83 +1,42 @@
 // The numbers that a post or a run takes, and the partner to reply to behind those of a post.
+use arrayvec::ArrayVec;
 use commands::Trouble;
 use text::{DecimalError, Word};
 
-// What is found where a number may stand: one, with the place after it; the end of the line; or trouble.
-#[derive(Clone, Copy)]
-enum Next {
-    Number { value: u32, to: usize },
-    End,
-    Wrong { why: Trouble },
-}
+// The numbers of a line: as many as the longest, a run's, has.
+pub type Numbers = ArrayVec<u32, 1001>;
 
-// The numbers of a line: how many, or what is wrong with them.
-#[derive(Clone, Copy)]
-pub enum Numbers {
-    All { count: usize },
-    Wrong { why: Trouble },
-}
-
-fn next_number(line: &[u8], at: usize) -> Next {
+// The number that stands at a place of a line, with the place after it; none at the end of the line.
+fn next_number(line: &[u8], at: usize) -> Result<Option<(u32, usize)>, Trouble> {
     let w = text::word_at(line, at);
-    let from = w.from;
-    let to = w.to;
-    if to <= from {
-        return Next::End;
-    }
-    match text::decimal_of(&line[from..to]) {
-        Ok(value) => Next::Number { value, to },
-        Err(DecimalError::Large) => Next::Wrong {
-            why: Trouble::Large,
+    match line.get(w.from..w.to) {
+        Some(word) if !word.is_empty() => match text::decimal_of(word) {
+            Ok(value) => Ok(Some((value, w.to))),
+            Err(DecimalError::Large) => Err(Trouble::Large),
+            Err(DecimalError::Bad) => Err(Trouble::Unnumbered),
         },
-        Err(DecimalError::Bad) => Next::Wrong {
-            why: Trouble::Unnumbered,
-        },
-    }
-}
-
-fn store(numbers: &mut [u32; 1001], n: usize, value: u32) {
-    if n < 1001 {
-        numbers[n] = value;
+        _ => Ok(None),
     }
 }
 
 // The numbers of a line from a place on, fewer than `limit` of them.
-pub fn numbers_of(line: &[u8], from: usize, limit: usize, numbers: &mut [u32; 1001]) -> Numbers {
+pub fn numbers_of(line: &[u8], from: usize, limit: usize) -> Result<Numbers, Trouble> {
+    let mut numbers = ArrayVec::new();
     let mut at = from;
-    let mut n = 0;
-    while n < limit {
-        let x = next_number(line, at);
-        match x {
-            Next::End => return Numbers::All { count: n },
-            Next::Wrong { why } => return Numbers::Wrong { why },
-            Next::Number { value, to } => {
-                store(numbers, n, value);
+    for _ in 0..limit {
+        match next_number(line, at)? {
+            None => return Ok(numbers),
+            Some((value, to)) => {
+                let _ = numbers.try_push(value);
                 at = to;
             }
         }
-        n += 1;
     }
-    Numbers::Wrong {
-        why: Trouble::Extra,
-    }
-}
-
-// The partner to reply to that a post names, 0 where it names none, or what is wrong with it.
-#[derive(Clone, Copy)]
-pub enum Reply {
-    Partner { number: u32 },
-    Wrong { why: Trouble },
+    Err(Trouble::Extra)
 }
 
 fn is_reply(line: &[u8], w: Word) -> bool {
-    let from = w.from;
-    let to = w.to;
-    if from <= to {
-        if to <= line.len() {
-            return text::same(&line[from..to], b"reply");
-        }
-    }
-    false
+    matches!(line.get(w.from..w.to), Some(b"reply"))
 }
 
 // The word `reply` of a post, the words of which begin at a place; the empty word at the end of the line where there is none. It stands behind the partner
@@ -85,13 +44,11 @@ fn is_reply(line: &[u8], w: Word) -> bool {
 pub fn reply_in(line: &[u8], from: usize) -> Word {
     let partner = text::word_at(line, from);
     let mut w = text::word_at(line, partner.to);
-    let mut left: usize = 9;
-    while left > 0 {
+    for _ in 0..9 {
         w = text::word_at(line, w.to);
         if is_reply(line, w) {
             return w;
         }
-        left -= 1;
     }
     Word {
         from: line.len(),
@@ -101,51 +58,34 @@ pub fn reply_in(line: &[u8], from: usize) -> Word {
 
 // A line up to a place.
 pub fn before(line: &[u8], at: usize) -> &[u8] {
-    if at <= line.len() {
-        return &line[0..at];
-    }
-    line
+    line.get(..at).unwrap_or(line)
 }
 
 // Whether a word stands from a place on.
 fn has_more(line: &[u8], at: usize) -> bool {
-    let w = text::word_at(line, at);
-    w.from < w.to
+    !text::word_at(line, at).is_empty()
 }
 
-// The partner to reply to, behind the word `reply` of a line.
-pub(crate) fn reply_of(line: &[u8], w: Word) -> Reply {
-    if w.to <= w.from {
-        return Reply::Partner { number: 0 };
+// The partner to reply to, behind the word `reply` of a line; 0 where it has no such word.
+pub(crate) fn reply_of(line: &[u8], w: Word) -> Result<u32, Trouble> {
+    if w.is_empty() {
+        return Ok(0);
     }
-    let x = next_number(line, w.to);
-    match x {
-        Next::End => Reply::Wrong {
-            why: Trouble::Missing,
-        },
-        Next::Wrong { why } => Reply::Wrong { why },
-        Next::Number { value, to } => {
-            if has_more(line, to) {
-                return Reply::Wrong {
-                    why: Trouble::Extra,
-                };
-            }
-            Reply::Partner { number: value }
-        }
+    match next_number(line, w.to)? {
+        None => Err(Trouble::Missing),
+        Some((_, to)) if has_more(line, to) => Err(Trouble::Extra),
+        Some((partner, _)) => Ok(partner),
     }
 }
 
-fn wide(number: u32) -> usize {
-    number as usize
-}
-
-// The numbers after the first.
-pub fn rest_of(numbers: &[u32; 1001]) -> [usize; 1000] {
-    let mut rest = [0usize; 1000];
-    let mut i = 0;
-    while i < 1000 {
-        rest[i] = wide(numbers[i + 1]);
-        i += 1;
+// The budget of a run, which is its first number, and its choices, which are those after it.
+pub fn run_of(numbers: &Numbers) -> Result<(u32, ArrayVec<usize, 1000>), Trouble> {
+    let Some((budget, rest)) = numbers.as_slice().split_first() else {
+        return Err(Trouble::Missing);
+    };
+    let mut choices = ArrayVec::new();
+    for number in rest {
+        let _ = choices.try_push(*number as usize);
     }
-    rest
+    Ok((*budget, choices))
 }

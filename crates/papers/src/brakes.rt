@@ -3,47 +3,14 @@ use super::Desk;
 use drawing::Out;
 use order::Order;
 
-fn with_live(live: usize, root: u8) -> usize {
-    if root == 0 {
-        return live;
-    }
-    if live < 16 {
-        return live + 1;
-    }
-    live
-}
-
 // How many orders are live.
-pub fn live_in(orders: [Order; 16]) -> usize {
-    let mut live = 0;
-    let mut slot = 0;
-    while slot < 16 {
-        let order = orders[slot];
-        live = with_live(live, order.root);
-        slot += 1;
-    }
-    live
+pub fn live_in(orders: &[Order; 16]) -> usize {
+    orders.iter().filter(|order| order.root != 0).count()
 }
 
-// What there is to lose: live orders, and messages that wait.
-fn stock_of(desk: &Desk) -> usize {
-    let state = desk.state;
-    let orders = state.orders;
-    let live = live_in(orders);
-    if 0 < live {
-        return live;
-    }
-    state.waiting
-}
-
-// Whether the desk has brakes now: it speaks to a person, was not told otherwise, and has something to lose.
+// Whether the desk has brakes now: it speaks to a person, was not told otherwise, and has something to lose: live orders, or messages that wait.
 pub fn is_braked(desk: &Desk) -> bool {
-    if desk.spoken {
-        if !desk.bold {
-            return 0 < stock_of(desk);
-        }
-    }
-    false
+    desk.spoken && !desk.bold && (0 < live_in(&desk.state.orders) || 0 < desk.state.waiting)
 }
 
 fn put_many(out: &mut Out, many: usize, one: &[u8], more: &[u8]) {
@@ -78,12 +45,11 @@ pub fn put_lost(out: &mut Out, live: usize, waiting: usize) {
 
 // The answer of a desk that has brakes: what would be lost, and how to say that it may be.
 pub fn braked(desk: &mut Desk, number: u64, word: &[u8]) {
-    let state = desk.state;
-    let orders = state.orders;
     desk.out.put(b"error");
     desk.out.put_next(number);
     desk.out.put_byte(b' ');
-    put_lost(&mut desk.out, live_in(orders), state.waiting);
+    let live = live_in(&desk.state.orders);
+    put_lost(&mut desk.out, live, desk.state.waiting);
     desk.out.put(b": say ");
     desk.out.put(word);
     desk.out.put(b"! to drop them\n");

@@ -1,7 +1,7 @@
 // A state with its tally and its names in a file: save and open.
 use super::sums::sum_of;
 use super::writing::forget;
-use super::{Desk, Filed, Said, sealed, system};
+use super::{Desk, Filed, Said, first, sealed, system};
 use drawing::Out;
 use machine::State;
 use plan::table::LENGTH;
@@ -118,12 +118,10 @@ fn filed(desk: &mut Desk, name: u64, held: u64) {
 }
 
 // The bytes of a file that the desk saves.
-fn put_desk(desk: &Desk, file: &mut [u8]) {
+fn put_desk(desk: &Desk, file: &mut [u8; 29660]) {
     let mut packed = [0u8; 12748];
-    let state = desk.state;
-    let tally = desk.tally;
-    store::pack(state, tally, &mut packed);
-    sealed::put_file(file, &packed, &desk.names[..]);
+    store::pack(desk.state, desk.tally, &mut packed);
+    sealed::put_file(file, &packed, &desk.names);
 }
 
 // Saves the state, the tally and the names.
@@ -149,23 +147,12 @@ fn readable(opened: &File, n: usize) -> Result<(), i32> {
     Ok(())
 }
 
-// Whether a state has no plan, and numbers within their limits.
-fn is_blank(state: State) -> bool {
-    if state.length == 0 {
-        return machine::limits::state_ruled(state);
-    }
-    false
-}
-
-// Whether the desk could have saved a state.
+// Whether the desk could have saved a state: it has a plan, or it has none and numbers within their limits.
 fn is_sound(state: State) -> bool {
     let mut table = [0u32; LENGTH];
     let mut flags = [0u8; 16];
-    let a = machine::limits::planned(state, &mut table, &mut flags);
-    match a {
-        Ok(_) => true,
-        Err(_) => is_blank(state),
-    }
+    machine::limits::planned(state, &mut table, &mut flags).is_ok()
+        || state.length == 0 && machine::limits::state_ruled(state)
 }
 
 // A plan becomes the last plan.
@@ -173,45 +160,23 @@ pub(crate) fn copied(plan: &[u8; 4096], bytes: &mut [u8; 8000]) {
     bytes[..4096].copy_from_slice(plan);
 }
 
+// What was read is nothing that was saved.
 fn put_foreign(desk: &mut Desk, number: u64) {
-    desk.out
-        .put_error(number, b"cannot open: it holds no saved state");
-    desk.fail();
+    desk.error(number, b"cannot open: it holds no saved state");
 }
 
-// The desk on a state that was kept. Its plan is the last plan.
-fn reopened(desk: &mut Desk, kept: Kept) {
-    let state = kept.state;
-    let tally = kept.tally;
-    let plan = state.plan;
-    copied(&plan, &mut desk.bytes);
-    desk.out.put_refusal(b"open", 0);
-    desk.plan = state.length;
-    desk.change(state, tally);
-}
-
+// The desk goes on with a state that was kept. Its plan is the last plan, and the names stay where it is that of the state before.
 fn taken(desk: &mut Desk, kept: Kept, number: u64) {
-    if kept.refused {
+    if kept.refused || !is_sound(kept.state) {
         put_foreign(desk, number);
-    } else {
-        let state = kept.state;
-        if is_sound(state) {
-            let before = desk.state;
-            reopened(desk, kept);
-            forget(before, &desk.bytes, desk.plan, &mut desk.names);
-        } else {
-            put_foreign(desk, number);
-        }
+        return;
     }
-}
-
-// A file that a desk saved, or a state of a host's, and something is amiss with it.
-fn put_changed(desk: &mut Desk, number: u64) {
-    desk.out.put_error(
-        number,
-        b"cannot open: it was cut or changed since it was saved",
-    );
-    desk.fail();
+    let before = desk.state;
+    copied(&kept.state.plan, &mut desk.bytes);
+    desk.plan = kept.state.length;
+    desk.change(kept.state, kept.tally);
+    desk.out.put_refusal(b"open", 0);
+    forget(before, &desk.bytes, desk.plan, &mut desk.names);
 }
 
 // The state that bytes hold, of whatever version.
@@ -223,35 +188,26 @@ fn kept_in(bytes: &[u8]) -> Kept {
 
 // The state that bytes begin with, of whatever version.
 pub fn kept_front(bytes: &[u8]) -> Kept {
-    let end = sealed::state_size(bytes);
-    if bytes.len() < end {
-        return kept_in(bytes);
-    }
-    kept_in(&bytes[..end])
+    kept_in(first(bytes, sealed::state_size(bytes)))
 }
 
-// The state and the names of a file that is whole.
-fn taken_whole(desk: &mut Desk, file: &[u8], number: u64) {
-    let kept = kept_front(file);
-    taken(desk, kept, number);
-    if desk.said == Said::Well {
-        sealed::take_names(file, &mut desk.names);
-    }
-}
-
-// What the bytes of a file come to: a file of the desk's own; a state as hosts save it, which has no names; or nothing that was saved.
+// What the bytes of a file come to: a file of the desk's own, with names; a state as hosts save it, which has none; or nothing that was saved.
 fn taken_from(desk: &mut Desk, file: &[u8], number: u64) {
     if sealed::is_sealed(file) {
-        taken_whole(desk, file, number);
-    } else {
-        let kept = kept_in(file);
-        if !kept.refused {
-            taken(desk, kept, number);
-        } else if sealed::begins_as_state(file) {
-            put_changed(desk, number);
-        } else {
-            put_foreign(desk, number);
+        taken(desk, kept_front(file), number);
+        if desk.said == Said::Well {
+            sealed::take_names(file, &mut desk.names);
         }
+        return;
+    }
+    let kept = kept_in(file);
+    if kept.refused && sealed::begins_as_state(file) {
+        desk.error(
+            number,
+            b"cannot open: it was cut or changed since it was saved",
+        );
+    } else {
+        taken(desk, kept, number);
     }
 }
 

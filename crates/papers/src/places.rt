@@ -3,69 +3,38 @@ use drawing::Out;
 use sheet::{past_blanks, word_end};
 
 fn byte_at(text: &[u8], at: usize) -> u8 {
-    if at < text.len() {
-        return text[at];
-    }
-    10
+    text.get(at).copied().unwrap_or(b'\n')
 }
 
 // The column of a place: one more than what stands before it in its line.
 fn column_of(text: &[u8], place: usize) -> u64 {
-    let mut column = 1;
-    let mut i = 0;
-    while i < place {
-        column = after(column, byte_at(text, i));
-        i += 1;
+    let mut column: u64 = 1;
+    for b in text.iter().take(place) {
+        column = match *b {
+            b'\n' => 1,
+            _ => column.saturating_add(1),
+        };
     }
     column
-}
-
-fn after(column: u64, b: u8) -> u64 {
-    if b == 10 {
-        return 1;
-    }
-    if column < 4294967295 {
-        return column + 1;
-    }
-    column
-}
-
-fn put_part(out: &mut Out, text: &[u8], from: usize, to: usize) {
-    if from <= to && to <= text.len() {
-        out.put(&text[from..to]);
-    }
-}
-
-// A mark that can be shown.
-fn is_shown(b: u8) -> bool {
-    if b < 33 {
-        return false;
-    }
-    b < 127
 }
 
 // What stands at a place: a word, or a mark.
 fn put_quoted(out: &mut Out, text: &[u8], from: usize) {
     let to = word_end(text, from);
     out.put(b" - '");
-    if from < to {
-        put_part(out, text, from, to);
-    } else {
-        out.put_byte(byte_at(text, from));
+    match text.get(from..to) {
+        Some(word) if from < to => out.put(word),
+        _ => out.put_byte(byte_at(text, from)),
     }
     out.put(b"'");
 }
 
 fn put_found(out: &mut Out, text: &[u8], from: usize) {
-    let b = byte_at(text, from);
-    if b == 9 {
-        out.put(b" - a tab");
-    } else if b == 35 {
-        out.put(b" - the end of the line");
-    } else if is_shown(b) {
-        put_quoted(out, text, from);
-    } else {
-        out.put(b" - the end of the line");
+    match byte_at(text, from) {
+        b'\t' => out.put(b" - a tab"),
+        b'#' => out.put(b" - the end of the line"),
+        b'!'..=b'~' => put_quoted(out, text, from),
+        _ => out.put(b" - the end of the line"),
     }
 }
 

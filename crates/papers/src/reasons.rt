@@ -61,38 +61,10 @@ fn put_place(out: &mut Out, reason: usize) {
     }
 }
 
-fn is_of_declaration(reason: usize) -> bool {
-    if reason < 6 {
-        return true;
-    }
-    if reason == 22 {
-        return true;
-    }
-    if reason == 23 {
-        return true;
-    }
-    if reason == 27 {
-        return true;
-    }
-    reason == 28
-}
-
-fn is_of_activity(reason: usize) -> bool {
-    if reason < 12 {
-        return true;
-    }
-    if reason == 13 {
-        return true;
-    }
-    23 < reason
-}
-
 pub(crate) fn put_why(out: &mut Out, reason: usize) {
-    if is_of_declaration(reason) {
-        put_declaration(out, reason);
-    } else if is_of_activity(reason) {
-        put_activity(out, reason);
-    } else {
-        put_place(out, reason);
+    match reason {
+        0..=5 | 22 | 23 | 27 | 28 => put_declaration(out, reason),
+        6..=11 | 13 | 24.. => put_activity(out, reason),
+        _ => put_place(out, reason),
     }
 }

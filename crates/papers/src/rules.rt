@@ -35,15 +35,7 @@ fn put_numbers(out: &mut Out) {
     );
 }
 
-// A row of two numbers, the first of which is 1, is a variable in an expression.
-fn is_variable(numbers: u32, code: u32) -> bool {
-    if numbers == 2 {
-        return code == 1;
-    }
-    false
-}
-
-// The rule of this row.
+// The rule of this row. A row of two numbers, the first of which is 1, is a variable in an expression.
 pub(crate) fn put_rule(
     out: &mut Out,
     text: &[u8],
@@ -56,13 +48,10 @@ pub(crate) fn put_rule(
     } else if is_arm(text, line_of(lines, row)) {
         put_message(out);
     } else {
-        let code = cell(rows, row, 1);
-        if is_variable(cell(rows, row, 0), code) {
-            out.put(b" - the plan has no such variable");
-        } else if cell(rows, row, 0) == 1 {
-            put_numbers(out);
-        } else {
-            put_activity(out, code);
+        match (cell(rows, row, 0), cell(rows, row, 1)) {
+            (2, 1) => out.put(b" - the plan has no such variable"),
+            (1, _) => put_numbers(out),
+            (_, code) => put_activity(out, code),
         }
     }
 }

@@ -4,162 +4,68 @@
 
 ghost use Rattle.std.specs.Prelude.{◌≤◌};
 
-fn wide(b: u8) -> u64 {
-    b as u64
-}
-
-// A byte of a file, where it has the place.
-fn set_byte(file: &mut [u8], place: usize, b: u8) {
-    if place < file.len() {
-        file[place] = b;
-    }
-}
-
-// Bytes from a place of a file on, as far as there is room.
-fn put_at(file: &mut [u8], at: usize, bytes: &[u8]) {
-    let mut place = at;
-    let mut i = 0;
-    while i < bytes.len() {
-        set_byte(file, place, bytes[i]);
-        if place < 29660 {
-            place += 1;
-        }
-        i += 1;
-    }
-}
-
-// The seal of all before a place of a file; 0 of what is too short for one.
-fn seal_of(file: &[u8], end: usize) -> u64 {
-    if file.len() < end {
-        return 0;
-    }
-    seal::seal(&file[..end])
-}
-
-// That seal into the last eight bytes, the lowest first.
-fn put_seal(file: &mut [u8]) {
-    let mut left = seal_of(&file[..], 29652);
-    let mut place: usize = 29652;
-    while place < 29660 {
-        set_byte(file, place, (left % 256) as u8);
-        left /= 256;
-        place += 1;
-    }
-}
-
 // How many bytes are read of a file: one more than a saved one has, so that a longer one is known.
 pub const READ: usize = 29661;
 
-// The file of a packed state and the names, in 29,660 bytes.
-pub(crate) fn put_file(file: &mut [u8], packed: &[u8], names: &[u8]) {
-    put_at(file, 0, packed);
-    put_at(file, 12748, names);
-    put_at(file, 29644, b"MOONDSK4");
-    put_seal(file);
+// The file of a packed state and the names.
+pub(crate) fn put_file(file: &mut [u8; 29660], packed: &[u8; 12748], names: &[u8; 16896]) {
+    file[..12748].copy_from_slice(packed);
+    file[12748..29644].copy_from_slice(names);
+    file[29644..29652].copy_from_slice(b"MOONDSK4");
+    let seal = seal::seal(&file[..29652]);
+    file[29652..].copy_from_slice(&seal.to_le_bytes());
 }
 
-// Whether the eight bytes from a place of a file on are this seal.
-fn ends_with(file: &[u8], end: usize, seal: u64) -> bool {
-    let mut left = seal;
-    let mut same = true;
-    let mut place = end;
-    let mut i: usize = 0;
-    while i < 8 {
-        if place < file.len() {
-            if wide(file[place]) != left % 256 {
-                same = false;
-            }
-            place += 1;
-        }
-        left /= 256;
-        i += 1;
-    }
-    same
-}
-
-// Whether bytes are a file of this size that a desk of this version saved, whole and unchanged.
+// Whether bytes are a file of this size that a desk of this version saved, whole and unchanged: the version stands behind the names, and then the seal.
 fn is_whole(file: &[u8], size: usize, version: &[u8]) -> bool
-    requires { 16 ≤ size }
+    requires { 8 ≤ size }
 {
     if file.len() != size {
         return false;
     }
-    let at = size - 16;
-    let end = size - 8;
-    if !text::same(&file[at..end], version) {
-        return false;
-    }
-    ends_with(file, end, seal_of(file, end))
+    let (before, end) = file.split_at(size - 8);
+    before.ends_with(version) && end == &seal::seal(before).to_le_bytes()[..]
 }
 
 // Whether bytes are a file that a desk saved, whole and unchanged.
 pub(crate) fn is_sealed(file: &[u8]) -> bool {
-    if is_whole(file, 29660, b"MOONDSK4") {
-        return true;
-    }
-    if is_whole(file, 29404, b"MOONDSK3") {
-        return true;
-    }
-    if is_whole(file, 17260, b"MOONDSK2") {
-        return true;
-    }
-    is_whole(file, 17244, b"MOONDSK1")
+    is_whole(file, 29660, b"MOONDSK4")
+        || is_whole(file, 29404, b"MOONDSK3")
+        || is_whole(file, 17260, b"MOONDSK2")
+        || is_whole(file, 17244, b"MOONDSK1")
 }
 
 // Whether bytes begin as a saved state of any version does: then, where they are none, they were cut or changed.
 pub(crate) fn begins_as_state(file: &[u8]) -> bool {
-    if file.len() < 7 {
-        return false;
-    }
-    text::same(&file[..7], b"MOONHAL")
+    file.starts_with(b"MOONHAL")
 }
 
 // How many bytes the state has that bytes begin with, by the last figure of its mark.
 pub(crate) fn state_size(bytes: &[u8]) -> usize {
-    if bytes.len() < 8 {
-        return 0;
+    match bytes.get(7) {
+        None => 0,
+        Some(b'1') => 11964,
+        Some(b'2') => 12476,
+        Some(b'3') => 12492,
+        Some(_) => 12748,
     }
-    if bytes[7] == b'1' {
-        return 11964;
-    }
-    if bytes[7] == b'2' {
-        return 12476;
-    }
-    if bytes[7] == b'3' {
-        return 12492;
-    }
-    12748
 }
 
 // Where the names start in a file of this size.
 fn names_start(size: usize) -> usize {
-    if size == 17244 {
-        return 12476;
+    match size {
+        17244 => 12476,
+        0..29660 => 12492,
+        _ => 12748,
     }
-    if size < 29660 {
-        return 12492;
-    }
-    12748
 }
 
-// Byte i of the names, which start at a place of a file, and behind which are its version and its seal; 0 where there is no more of them.
-fn name_byte(file: &[u8], start: usize, i: usize) -> u8 {
-    if start < 12749 {
-        if i < 16896 {
-            if start + i + 16 < file.len() {
-                return file[start + i];
-            }
-        }
-    }
-    0
-}
-
-// The names that a file has.
+// The names that a file has, behind which are its version and its seal; older files have fewer.
 pub(crate) fn take_names(file: &[u8], names: &mut [u8; 16896]) {
-    let start = names_start(file.len());
-    let mut i: usize = 0;
-    while i < 16896 {
-        names[i] = name_byte(file, start, i);
-        i += 1;
+    let end = file.len().saturating_sub(16);
+    let held = file.get(names_start(file.len())..end).unwrap_or(b"");
+    names.fill(0);
+    for (place, b) in names.iter_mut().zip(held) {
+        *place = *b;
     }
 }

@@ -1,6 +1,6 @@
 // A plan as text: the crate sheet makes rows of it, the crate writer bytes. And the names that it declares, which stay as long as its plan does.
 use super::brakes::{braked, is_braked};
-use super::disagreeing::put_disagreeing;
+use super::disagreeing::{line_of, put_disagreeing};
 use super::files::copied;
 use super::places::put_place;
 use super::plans::fresh;
@@ -11,7 +11,6 @@ use drawing::Out;
 use machine::State;
 use plan::Refusal;
 use sheet::Sheet;
-use writer::Answer;
 
 // Whether two plans are the same, of this length.
 fn is_same(a: &[u8], b: &[u8], length: usize) -> bool {
@@ -25,31 +24,18 @@ fn is_kept(before: State, bytes: &[u8; 8000], length: usize) -> bool {
 
 // The names are those of the plan of the state before, and of no other.
 pub(crate) fn forget(before: State, bytes: &[u8; 8000], length: usize, names: &mut [u8; 16896]) {
-    if is_kept(before, bytes, length) {
-        return;
+    if !is_kept(before, bytes, length) {
+        names.fill(0);
     }
-    names.fill(0);
 }
 
 // The number of a line of the text, where the write is line `number`.
 pub(crate) fn line_after(number: u64, line: u64) -> u64 {
-    if number < 9223372036854775808 {
-        if line < 4294967296 {
-            return number + line;
-        }
+    if number < 9223372036854775808 && line < 4294967296 {
+        number + line
+    } else {
+        number
     }
-    number
-}
-
-fn wide(x: u32) -> u64 {
-    x as u64
-}
-
-fn line_of(lines: &[u32; 4355], row: usize) -> u64 {
-    if row < 4355 {
-        return wide(lines[row]);
-    }
-    0
 }
 
 // What is wrong with a line of the text, and, where it is to be pointed at, by which word.
@@ -101,16 +87,6 @@ fn written(desk: &mut Desk, text: &[u8], plan: &[u8; 4096], length: usize) {
     fresh(desk, length);
 }
 
-fn answer_of(rows: &[u32], length: usize, plan: &mut [u8; 4096]) -> Answer {
-    if length <= rows.len() {
-        return writer::write(&rows[0..length], plan);
-    }
-    Err(Refusal {
-        number: 2,
-        place: 0,
-    })
-}
-
 // A text that is refused, and, for a person, by which rule where that is not told by the number.
 fn ruled(desk: &mut Desk, text: &[u8], rows: &[u32; 87100], lines: &[u32; 4355], row: usize) {
     if desk.spoken && desk.said == Said::Refused(5) {
@@ -130,8 +106,8 @@ fn write_rows(
     lines: &[u32; 4355],
 ) {
     let mut plan = [0u8; 4096];
-    let a = answer_of(rows, length, &mut plan);
-    match a {
+    let rows_read = rows.get(..length).unwrap_or(rows);
+    match writer::write(rows_read, &mut plan) {
         Ok(length) => {
             if desk.spoken {
                 written_with_care(desk, text, &plan, length, number);
@@ -149,8 +125,8 @@ fn write_rows(
             if refusal == 21 {
                 put_disagreeing(text, number, rows, lines, place, &mut desk.out);
             } else {
-                let line = line_after(number, line_of(lines, place));
-                desk.out.put_pair(b"write", wide(refusal), line);
+                let line = line_after(number, u64::from(line_of(lines, place)));
+                desk.out.put_pair(b"write", u64::from(refusal), line);
                 ruled(desk, text, rows, lines, place);
             }
         }
@@ -162,8 +138,7 @@ fn write_rows(
 pub fn write(desk: &mut Desk, text: &[u8], number: u64) {
     let mut rows = [0u32; 87100];
     let mut lines = [0u32; 4355];
-    let r = sheet::read(text, &mut rows, &mut lines);
-    match r {
+    match sheet::read(text, &mut rows, &mut lines) {
         Sheet::Rows { length } => write_rows(desk, text, number, &rows, length, &lines),
         Sheet::Wrong {
             line,

@@ -19,14 +19,10 @@ pub(crate) fn help(desk: &mut Desk) {
 
 // Help on a command, on refusals or on faults.
 pub(crate) fn help_on(desk: &mut Desk, word: &[u8], number: u64) {
-    if text::same(word, b"refusals") {
-        sayings::put_refusals(&mut desk.out);
-    } else if text::same(word, b"faults") {
-        sayings::put_faults(&mut desk.out);
-    } else if sayings::has_help(word) {
-        sayings::put_help_on(&mut desk.out, word);
-    } else {
-        desk.out.put_error(number, b"no such command");
-        desk.fail();
+    match word {
+        b"refusals" => sayings::put_refusals(&mut desk.out),
+        b"faults" => sayings::put_faults(&mut desk.out),
+        _ if sayings::has_help(word) => sayings::put_help_on(&mut desk.out, word),
+        _ => desk.error(number, b"no such command"),
     }
 }

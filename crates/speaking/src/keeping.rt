@@ -10,8 +10,7 @@ use sayings::put_refused;
 pub(crate) fn activities_of(state: State) -> usize {
     let mut table = [0u32; LENGTH];
     let mut flags = [0u8; 16];
-    let a = machine::limits::planned(state, &mut table, &mut flags);
-    match a {
+    match machine::limits::planned(state, &mut table, &mut flags) {
         Err(_) => 0,
         Ok(Accepted { activities, .. }) => activities,
     }
@@ -82,17 +81,15 @@ pub(crate) fn mend(desk: &mut Desk, word: &[u8], number: u64) {
     }
 }
 
+// What there is to lose.
 fn put_what(desk: &mut Desk) {
-    let state = desk.state;
-    let orders = state.orders;
-    let live = live_in(orders);
-    if live == 0 {
-        if state.waiting == 0 {
-            desk.out.put(b"no order is live, no message waits");
-            return;
-        }
+    let live = live_in(&desk.state.orders);
+    let waiting = desk.state.waiting;
+    if live == 0 && waiting == 0 {
+        desk.out.put(b"no order is live, no message waits");
+    } else {
+        put_lost(&mut desk.out, live, waiting);
     }
-    put_lost(&mut desk.out, live, state.waiting);
 }
 
 // What a file holds, behind its numbers.
@@ -152,18 +149,8 @@ pub fn written(desk: &mut Desk, text: &[u8], number: u64) {
 
 // Whether something would be lost if the desk ended now: it changed since the last save, and there are orders or messages, or a file that it is to go to.
 pub fn is_at_risk(desk: &Desk) -> bool {
-    if !desk.unsaved {
-        return false;
-    }
-    if desk.filed.is_some() {
-        return true;
-    }
-    let state = desk.state;
-    let orders = state.orders;
-    if 0 < live_in(orders) {
-        return true;
-    }
-    0 < state.waiting
+    desk.unsaved
+        && (desk.filed.is_some() || 0 < live_in(&desk.state.orders) || 0 < desk.state.waiting)
 }
 
 // What would be lost.

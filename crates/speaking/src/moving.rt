@@ -1,43 +1,28 @@
 // Steps and messages that go out, each told in words behind its numbers: step, run, go, collect and drop.
-use commands::Trouble;
-use console::{Numbers, numbers_of, rest_of};
 use drawing::Out;
 use machine::{Collected, Message, State, Step, Tally};
-use order::Order;
 use papers::{Desk, Said};
-use plan::Accepted;
 use plan::table::LENGTH;
 use run::Ran;
 use sayings::put_refused;
-
-fn order_in(orders: [Order; 16], slot: usize) -> Order {
-    if slot < 16 {
-        return orders[slot];
-    }
-    machine::made::no_order()
-}
-
-fn message_in(messages: [Message; 64], place: usize) -> Message {
-    if place < 64 {
-        return messages[place];
-    }
-    machine::made::no_message()
-}
 
 // A step that was taken in this state.
 fn put_taken(out: &mut Out, names: &[u8; 16896], state: State, x: Step) {
     let mut table = [0u32; LENGTH];
     let mut flags = [0u8; 16];
-    let orders = state.orders;
-    let messages = state.messages;
-    let order = order_in(orders, x.slot);
-    let m = message_in(messages, x.place);
-    let a = machine::limits::planned(state, &mut table, &mut flags);
-    match a {
-        Err(_) => {}
-        Ok(Accepted { activities, .. }) => telling::put_step(
-            out, names, &table, &flags, activities, order, m, x,
-        ),
+    let order = state.orders.get(x.slot).copied();
+    let message = state.messages.get(x.place).copied();
+    if let Ok(plan) = machine::limits::planned(state, &mut table, &mut flags) {
+        telling::put_step(
+            out,
+            names,
+            &table,
+            &flags,
+            plan.activities,
+            order.unwrap_or(machine::made::no_order()),
+            message.unwrap_or(machine::made::no_message()),
+            x,
+        );
     }
 }
 
@@ -55,17 +40,14 @@ fn put_told(out: &mut Out, names: &[u8; 16896], state: State, x: Step) {
 // Takes a step.
 pub(crate) fn step(desk: &mut Desk, choice: u32) {
     let before = desk.state;
-    let counted = desk.tally;
-    let r = step::take_step(before, choice as usize, counted);
+    let r = step::take_step(before, choice as usize, desk.tally);
     let x = r.answer;
     console::put_step(&mut desk.out, x);
     put_told(&mut desk.out, &desk.names, before, x);
-    if x.refusal != 0 {
-        desk.answer(x.refusal);
+    if x.refusal == 0 {
+        desk.change(r.state, r.tally);
     } else {
-        let state = r.state;
-        let tally = r.tally;
-        desk.change(state, tally);
+        desk.answer(x.refusal);
     }
 }
 
@@ -86,109 +68,65 @@ fn put_count(out: &mut Out, r: Ran) {
     out.put_byte(b'\n');
 }
 
-fn choice_at(choices: &[usize; 1000], i: usize) -> usize {
-    if i < 1000 {
-        return choices[i];
-    }
-    0
-}
-
-// One step more of a run, told; the state after it.
+// One step more of a run, told.
 fn put_turn(out: &mut Out, names: &[u8; 16896], state: State, x: Step) {
     out.put(b"  ");
     put_taken(out, names, state, x);
     out.put_byte(b'\n');
 }
 
-// The steps of a run once more, each told.
-fn put_turns(
-    out: &mut Out,
-    names: &[u8; 16896],
-    state: State,
-    tally: Tally,
-    choices: &[usize; 1000],
-    taken: usize,
-) {
+// The steps of a run, which were taken by these choices, once more, each told.
+fn put_turns(out: &mut Out, names: &[u8; 16896], state: State, tally: Tally, choices: &[usize]) {
     let mut s = state;
     let mut t = tally;
-    let mut i = 0;
-    while i < taken {
-        let r = step::take_step(s, choice_at(choices, i), t);
-        let x = r.answer;
-        put_turn(out, names, s, x);
+    for choice in choices {
+        let r = step::take_step(s, *choice, t);
+        put_turn(out, names, s, r.answer);
         s = r.state;
         t = r.tally;
-        i += 1;
     }
     out.put_byte(b'\n');
 }
 
-fn ran_of(state: State, tally: Tally, choices: &[usize], n: usize, budget: u32) -> Ran {
-    let mut left = budget as usize;
-    if n <= choices.len() {
-        return run::run(state, &choices[0..n], &mut left, tally);
-    }
-    run::run(state, choices, &mut left, tally)
-}
-
-fn ran_in(state: State, tally: Tally, choices: &[usize; 1000], n: usize, budget: u32) -> Ran {
-    ran_of(state, tally, choices, n, budget)
-}
-
 // Takes steps by these choices, and tells them.
-fn ran(desk: &mut Desk, word: &[u8], choices: &[usize; 1000], n: usize, budget: u32) {
+fn ran(desk: &mut Desk, word: &[u8], choices: &[usize], budget: u32) {
     let before = desk.state;
     let counted = desk.tally;
-    let r = ran_in(before, counted, choices, n, budget);
-    let state = r.state;
-    let tally = r.tally;
-    desk.out.put_pair(word, r.taken as u64, r.refusal as u64);
+    let mut left = budget as usize;
+    let r = run::run(before, choices, &mut left, counted);
+    desk.out
+        .put_pair(word, r.taken as u64, u64::from(r.refusal));
     if desk.spoken {
+        let taken = choices.get(..r.taken).unwrap_or(choices);
         put_count(&mut desk.out, r);
-        put_turns(
-            &mut desk.out,
-            &desk.names,
-            before,
-            counted,
-            choices,
-            r.taken,
-        );
+        put_turns(&mut desk.out, &desk.names, before, counted, taken);
     }
     if r.taken == 0 {
         desk.answer(r.refusal);
     } else {
-        desk.change(state, tally);
+        desk.change(r.state, r.tally);
     }
 }
 
 // Takes steps by a budget and up to 1,000 choices.
 pub(crate) fn run(desk: &mut Desk, line: &[u8], from: usize, number: u64) {
-    let mut numbers = [0u32; 1001];
-    let n = numbers_of(line, from, 1002, &mut numbers);
-    match n {
-        Numbers::Wrong { why } => console::wrong(desk, number, why),
-        Numbers::All { count: 0 } => console::wrong(desk, number, Trouble::Missing),
-        Numbers::All { count } => {
-            let choices = rest_of(&numbers);
-            ran(desk, b"run", &choices, count - 1, numbers[0]);
-        }
+    match console::running(line, from) {
+        Ok((budget, choices)) => ran(desk, b"run", choices.as_slice(), budget),
+        Err(why) => console::wrong(desk, number, why),
     }
 }
 
 // Takes the first choice again and again, up to 1,000 times.
 pub(crate) fn go(desk: &mut Desk, limit: u32) {
-    let choices = [0usize; 1000];
-    ran(desk, b"go", &choices, 1000, limit);
+    ran(desk, b"go", &[0usize; 1000], limit);
 }
 
 // A message that goes out, told.
 fn put_out(out: &mut Out, names: &[u8; 16896], state: State, m: Message) {
     let mut table = [0u32; LENGTH];
     let mut flags = [0u8; 16];
-    let a = machine::limits::planned(state, &mut table, &mut flags);
-    match a {
-        Err(_) => {}
-        Ok(Accepted { activities, .. }) => telling::put_letter(out, names, &table, activities, m),
+    if let Ok(plan) = machine::limits::planned(state, &mut table, &mut flags) {
+        telling::put_letter(out, names, &table, plan.activities, m);
     }
 }
 
@@ -221,44 +159,43 @@ fn put_handed(
 
 // A message that a command with this word handed out, or why it did not.
 fn handed(desk: &mut Desk, word: &[u8], c: Collected, dropped: bool) {
-    let before = desk.state;
-    let m = c.message;
     console::put_collected(&mut desk.out, word, c);
     if desk.spoken {
-        put_handed(&mut desk.out, &desk.names, before, c.refusal, m, dropped);
+        put_handed(
+            &mut desk.out,
+            &desk.names,
+            desk.state,
+            c.refusal,
+            c.message,
+            dropped,
+        );
     }
-    if c.refusal != 0 {
-        desk.answer(c.refusal);
+    if c.refusal == 0 {
+        desk.change(c.state, desk.tally);
     } else {
-        let state = c.state;
-        let tally = desk.tally;
-        desk.change(state, tally);
+        desk.answer(c.refusal);
     }
 }
 
 // Hands out the oldest message that leaves.
 pub(crate) fn collect(desk: &mut Desk) {
-    let before = desk.state;
-    let c = mail::collect(before);
+    let c = mail::collect(desk.state);
     handed(desk, b"collect", c, false);
 }
 
 // Hands out the message at a place, whoever it is for.
 pub(crate) fn drop_at(desk: &mut Desk, place: u32) {
-    let before = desk.state;
-    let c = mail::drop_at(before, place as usize);
+    let c = mail::drop_at(desk.state, place as usize);
     handed(desk, b"drop", c, true);
 }
 
 // Hands out all that go out, up to the refusal that says that there are no more.
 pub(crate) fn collect_all(desk: &mut Desk) {
-    let mut left: usize = 65;
-    while left > 0 {
+    for _ in 0..65 {
         collect(desk);
         if desk.said != Said::Well {
             desk.said = Said::Well;
             return;
         }
-        left -= 1;
     }
 }

@@ -1,97 +1,83 @@
 // A message that comes in, by names or numbers.
+use arrayvec::ArrayVec;
 use commands::Trouble;
 use drawing::Out;
 use machine::{Message, State};
 use names::NameError;
 use papers::Desk;
 use phrases::{has_more, part};
-use plan::Accepted;
 use plan::table::{LENGTH, Table};
 use text::Word;
 
-// What stands at a place of a post: a number, the end of the line, a name that nobody has, or trouble.
+// Why a post says no message: something is wrong with its words, or one of them is the name of nothing.
 #[derive(Clone, Copy)]
-enum Next {
-    Number { value: u32, to: usize },
-    End,
-    Unnamed { from: usize, to: usize },
-    Wrong { why: Trouble },
+enum Unread<'a> {
+    Wrong(Trouble),
+    Unnamed(&'a [u8]),
 }
 
-// What the words of a post say.
-#[derive(Clone, Copy)]
-enum Reading {
-    All { count: usize },
-    Unnamed { from: usize, to: usize },
-    Wrong { why: Trouble },
-}
-
-// What stands at a place of a post: what its word n stands for.
-fn next_of(names: &[u8; 16896], line: &[u8], at: usize, n: usize) -> Next {
+// What the word at a place of a post stands for, word n of them, with the place after it; nothing at the end of the line.
+fn next_of<'a>(
+    names: &[u8; 16896],
+    line: &'a [u8],
+    at: usize,
+    n: usize,
+) -> Result<Option<(u32, usize)>, Unread<'a>> {
     let w = text::word_at(line, at);
-    let from = w.from;
-    let to = w.to;
-    if to <= from {
-        return Next::End;
+    if w.is_empty() {
+        return Ok(None);
     }
-    match names::stands_for(names, part(line, from, to), n) {
-        Ok(value) => Next::Number { value, to },
-        Err(NameError::Large) => Next::Wrong {
-            why: Trouble::Large,
-        },
-        Err(NameError::Unnamed) => Next::Unnamed { from, to },
-        Err(NameError::Unnumbered) => Next::Wrong {
-            why: Trouble::Unnumbered,
-        },
-    }
-}
-
-fn store(numbers: &mut [u32; 1001], n: usize, value: u32) {
-    if n < 1001 {
-        numbers[n] = value;
+    let word = part(line, w.from, w.to);
+    match names::stands_for(names, word, n) {
+        Ok(value) => Ok(Some((value, w.to))),
+        Err(NameError::Large) => Err(Unread::Wrong(Trouble::Large)),
+        Err(NameError::Unnamed) => Err(Unread::Unnamed(word)),
+        Err(NameError::Unnumbered) => Err(Unread::Wrong(Trouble::Unnumbered)),
     }
 }
 
 // The words of a post as numbers: a partner, an operation, and up to eight values.
-fn numbers_of(names: &[u8; 16896], line: &[u8], from: usize, numbers: &mut [u32; 1001]) -> Reading {
+fn numbers_of<'a>(
+    names: &[u8; 16896],
+    line: &'a [u8],
+    from: usize,
+) -> Result<ArrayVec<u32, 11>, Unread<'a>> {
+    let mut numbers = ArrayVec::new();
     let mut at = from;
-    let mut n = 0;
-    while n < 11 {
-        let x = next_of(names, line, at, n);
-        match x {
-            Next::End => return Reading::All { count: n },
-            Next::Unnamed { from, to } => return Reading::Unnamed { from, to },
-            Next::Wrong { why } => return Reading::Wrong { why },
-            Next::Number { value, to } => {
-                store(numbers, n, value);
+    for n in 0..11 {
+        match next_of(names, line, at, n)? {
+            None => return Ok(numbers),
+            Some((value, to)) => {
+                let _ = numbers.try_push(value);
                 at = to;
             }
         }
-        n += 1;
     }
-    Reading::Wrong {
-        why: Trouble::Extra,
-    }
+    Err(Unread::Wrong(Trouble::Extra))
 }
 
 // Whom a post says to reply to, behind its word `reply`, by name or number; partner 0 where it names nobody.
-fn reply_of(names: &[u8; 16896], line: &[u8], w: Word) -> Next {
-    if w.to <= w.from {
-        return Next::Number { value: 0, to: w.to };
+fn reply_of<'a>(names: &[u8; 16896], line: &'a [u8], w: Word) -> Result<u32, Unread<'a>> {
+    if w.is_empty() {
+        return Ok(0);
     }
-    let x = next_of(names, line, w.to, 0);
-    match x {
-        Next::Number { value, to } => {
-            if has_more(line, to) {
-                return Next::Wrong {
-                    why: Trouble::Extra,
-                };
-            }
-            Next::Number { value, to }
-        }
-        Next::End => Next::End,
-        Next::Unnamed { from, to } => Next::Unnamed { from, to },
-        Next::Wrong { why } => Next::Wrong { why },
+    match next_of(names, line, w.to, 0)? {
+        None => Err(Unread::Wrong(Trouble::Missing)),
+        Some((_, to)) if has_more(line, to) => Err(Unread::Wrong(Trouble::Extra)),
+        Some((partner, _)) => Ok(partner),
+    }
+}
+
+// The message that a post says.
+fn posting<'a>(names: &[u8; 16896], line: &'a [u8], from: usize) -> Result<Message, Unread<'a>> {
+    let reply = console::reply_in(line, from);
+    let numbers = numbers_of(names, console::before(line, reply.from), from)?;
+    match console::message_of(numbers.as_slice(), 0) {
+        Ok(m) => Ok(Message {
+            reply: reply_of(names, line, reply)?,
+            ..m
+        }),
+        Err(why) => Err(Unread::Wrong(why)),
     }
 }
 
@@ -107,21 +93,16 @@ fn put_fate(out: &mut Out, table: &Table, activities: usize, m: Message) {
 fn put_waits(out: &mut Out, names: &[u8; 16896], state: State, m: Message) {
     let mut table = [0u32; LENGTH];
     let mut flags = [0u8; 16];
-    let a = machine::limits::planned(state, &mut table, &mut flags);
-    match a {
-        Err(_) => {}
-        Ok(Accepted { activities, .. }) => {
-            telling::put_letter(out, names, &table, activities, m);
-            out.put(b"; waits at place");
-            out.put_next(state.waiting as u64);
-            put_fate(out, &table, activities, m);
-        }
+    if let Ok(plan) = machine::limits::planned(state, &mut table, &mut flags) {
+        telling::put_letter(out, names, &table, plan.activities, m);
+        out.put(b"; waits at place");
+        out.put_next(state.waiting as u64);
+        put_fate(out, &table, plan.activities, m);
     }
 }
 
 fn posted(desk: &mut Desk, m: Message) {
-    let before = desk.state;
-    let p = mail::post(before, m);
+    let p = mail::post(desk.state, m);
     desk.out.put_refusal(b"post", p.refusal);
     desk.out.go_on();
     if p.refusal != 0 {
@@ -130,11 +111,9 @@ fn posted(desk: &mut Desk, m: Message) {
         return;
     }
     desk.out.put(b" - ");
-    put_waits(&mut desk.out, &desk.names, before, m);
+    put_waits(&mut desk.out, &desk.names, desk.state, m);
     desk.out.put_byte(b'\n');
-    let state = p.state;
-    let tally = desk.tally;
-    desk.change(state, tally);
+    desk.change(p.state, desk.tally);
 }
 
 // A name that nobody has.
@@ -147,44 +126,11 @@ fn unnamed(desk: &mut Desk, number: u64, word: &[u8]) {
     desk.fail();
 }
 
-// Posts a message by its numbers, so many of them; its partner to reply to stands behind the word `reply` of the line.
-fn posted_with(
-    desk: &mut Desk,
-    line: &[u8],
-    reply: Word,
-    number: u64,
-    numbers: &[u32; 1001],
-    count: usize,
-) {
-    if count < 2 {
-        console::wrong(desk, number, Trouble::Missing);
-    } else {
-        let r = reply_of(&desk.names, line, reply);
-        match r {
-            Next::End => console::wrong(desk, number, Trouble::Missing),
-            Next::Wrong { why } => console::wrong(desk, number, why),
-            Next::Unnamed { from, to } => unnamed(desk, number, part(line, from, to)),
-            Next::Number { value, to: _ } => {
-                let m = console::message_of(numbers, count - 2, value);
-                posted(desk, m);
-            }
-        }
-    }
-}
-
 // Posts a message.
 pub(crate) fn post(desk: &mut Desk, line: &[u8], from: usize, number: u64) {
-    let mut numbers = [0u32; 1001];
-    let reply = console::reply_in(line, from);
-    let n = numbers_of(
-        &desk.names,
-        console::before(line, reply.from),
-        from,
-        &mut numbers,
-    );
-    match n {
-        Reading::Wrong { why } => console::wrong(desk, number, why),
-        Reading::Unnamed { from, to } => unnamed(desk, number, part(line, from, to)),
-        Reading::All { count } => posted_with(desk, line, reply, number, &numbers, count),
+    match posting(&desk.names, line, from) {
+        Ok(m) => posted(desk, m),
+        Err(Unread::Wrong(why)) => console::wrong(desk, number, why),
+        Err(Unread::Unnamed(word)) => unnamed(desk, number, word),
     }
 }

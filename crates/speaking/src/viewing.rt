@@ -3,7 +3,6 @@ use super::keeping::activities_of;
 use drawing::Out;
 use machine::{Message, State, Tally};
 use papers::{Desk, Said};
-use plan::Accepted;
 use plan::table::{LENGTH, Table};
 use sayings::put_refused;
 
@@ -16,8 +15,7 @@ fn planless(desk: &mut Desk, word: &[u8]) {
 }
 
 fn has_plan(desk: &Desk) -> bool {
-    let state = desk.state;
-    0 < state.length
+    0 < desk.state.length
 }
 
 // A command whose answer is words already.
@@ -42,14 +40,10 @@ pub(crate) fn drawn(desk: &mut Desk, line: &[u8], number: u64) {
 // The bytes of an activity, or why there are none.
 pub(crate) fn shown(desk: &mut Desk, k: u32, line: &[u8], number: u64) {
     drawn(desk, line, number);
-    if desk.said == Said::Well {
-        let state = desk.state;
-        let n = k as usize;
-        if activities_of(state) <= n {
-            desk.out.go_on();
-            put_refused(&mut desk.out, 16);
-            desk.answer(16);
-        }
+    if desk.said == Said::Well && activities_of(desk.state) <= k as usize {
+        desk.out.go_on();
+        put_refused(&mut desk.out, 16);
+        desk.answer(16);
     }
 }
 
@@ -74,8 +68,7 @@ pub(crate) fn offer(desk: &mut Desk, line: &[u8], number: u64) {
         planless(desk, b"offer");
         return;
     }
-    let state = desk.state;
-    let o = offer::offers(state);
+    let o = offer::offers(desk.state);
     console::answer(desk, line, number);
     put_choices(&mut desk.out, o.many, o.held);
 }
@@ -83,22 +76,21 @@ pub(crate) fn offer(desk: &mut Desk, line: &[u8], number: u64) {
 fn put_counts(out: &mut Out, tally: Tally) {
     out.go_on();
     out.put(b" -");
-    out.put_next(tally.started as u64);
+    out.put_next(u64::from(tally.started));
     out.put(b" started; ended:");
-    out.put_next(tally.well as u64);
+    out.put_next(u64::from(tally.well));
     out.put(b" well,");
-    out.put_next(tally.handled as u64);
+    out.put_next(u64::from(tally.handled));
     out.put(b" handled,");
-    out.put_next(tally.failed as u64);
+    out.put_next(u64::from(tally.failed));
     out.put(b" failed,");
-    out.put_next(tally.left as u64);
+    out.put_next(u64::from(tally.left));
     out.put(b" left\n");
 }
 
 pub(crate) fn tally(desk: &mut Desk) {
-    let tally = desk.tally;
-    console::put_tally(&mut desk.out, tally);
-    put_counts(&mut desk.out, tally);
+    console::put_tally(&mut desk.out, desk.tally);
+    put_counts(&mut desk.out, desk.tally);
 }
 
 // What becomes of a message.
@@ -129,48 +121,22 @@ fn put_one(
     put_fate(out, table, activities, m);
 }
 
-fn put_all(
-    out: &mut Out,
-    names: &[u8; 16896],
-    table: &Table,
-    activities: usize,
-    messages: [Message; 64],
-    waiting: usize,
-) {
-    let mut i = 0;
-    while i < 64 {
-        if i < waiting {
-            let m = messages[i];
-            put_one(out, names, table, activities, i, m);
+// Each message that waits.
+fn put_waiting(out: &mut Out, names: &[u8; 16896], state: State) {
+    let mut table = [0u32; LENGTH];
+    let mut flags = [0u8; 16];
+    if let Ok(plan) = machine::limits::planned(state, &mut table, &mut flags) {
+        for (place, m) in state.messages.iter().enumerate().take(state.waiting) {
+            put_one(out, names, &table, plan.activities, place, *m);
         }
-        i += 1;
     }
     out.put_byte(b'\n');
 }
 
-fn put_waiting(out: &mut Out, names: &[u8; 16896], state: State) {
-    let mut table = [0u32; LENGTH];
-    let mut flags = [0u8; 16];
-    let messages = state.messages;
-    let a = machine::limits::planned(state, &mut table, &mut flags);
-    match a {
-        Err(_) => out.put_byte(b'\n'),
-        Ok(Accepted { activities, .. }) => put_all(
-            out,
-            names,
-            &table,
-            activities,
-            messages,
-            state.waiting,
-        ),
-    }
-}
-
 // The messages that wait, a line for each, and a blank line.
 pub(crate) fn waiting(desk: &mut Desk) {
-    let state = desk.state;
     desk.out.put(b"waiting");
-    desk.out.put_next(state.waiting as u64);
+    desk.out.put_next(desk.state.waiting as u64);
     desk.out.put_byte(b'\n');
-    put_waiting(&mut desk.out, &desk.names, state);
+    put_waiting(&mut desk.out, &desk.names, desk.state);
 }

@@ -1,9 +1,0 @@
--- `care::retaining::copied` is safe and ends. The measure is what is left to go through. Assumes nothing.
-
-use Rattle.care.proofs.retaining.copied.Given as goal
-
-abbrev pub invariant-loop-turns : goal.invariant-loop-turns
-invariant-loop-turns l = Unit {0}
-
-abbrev pub decreases-loop-turns : goal.decreases-loop-turns
-decreases-loop-turns l = l.turns

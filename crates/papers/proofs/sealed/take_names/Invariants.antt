@@ -1,9 +1,0 @@
--- `papers::sealed::take_names` is safe and ends. The measure is what is left of the names. Assumes nothing.
-use Prim.Native.Nat.{◌-◌}
-use Rattle.papers.proofs.sealed.take_names.Given as goal
-
-abbrev pub invariant-loop-i : goal.invariant-loop-i
-invariant-loop-i l = Unit {0}
-
-abbrev pub decreases-loop-i : goal.decreases-loop-i
-decreases-loop-i l = 16896 - l.i

@@ -1,9 +1,0 @@
--- `papers::writing::is_same_plan` is safe and ends. The measure is what is left to go through. Assumes nothing.
-use Prim.Native.Nat.{◌-◌}
-use Rattle.papers.proofs.writing.is_same_plan.Given as goal
-
-abbrev pub invariant-loop-i : goal.invariant-loop-i
-invariant-loop-i l = Unit {0}
-
-abbrev pub decreases-loop-i : goal.decreases-loop-i
-decreases-loop-i l = 4096 - l.i

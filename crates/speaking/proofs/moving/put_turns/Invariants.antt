@@ -1,9 +1,0 @@
--- `speaking::moving::put_turns` is safe and ends. The measure is what is left to go through. Assumes nothing.
-use Prim.Native.Nat.{◌-◌}
-use Rattle.speaking.proofs.moving.put_turns.Given as goal
-
-abbrev pub invariant-loop-i : goal.invariant-loop-i
-invariant-loop-i l = Unit {0}
-
-abbrev pub decreases-loop-i : goal.decreases-loop-i
-decreases-loop-i l = l.taken - l.i

@@ -1,9 +1,0 @@
--- `speaking::viewing::put_all` is safe and ends. The measure is what is left to go through. Assumes nothing.
-use Prim.Native.Nat.{◌-◌}
-use Rattle.speaking.proofs.viewing.put_all.Given as goal
-
-abbrev pub invariant-loop-i : goal.invariant-loop-i
-invariant-loop-i l = Unit {0}
-
-abbrev pub decreases-loop-i : goal.decreases-loop-i
-decreases-loop-i l = 64 - l.i
