@@ -36,7 +36,7 @@ pub fn numbers_of(line: &[u8], from: usize, limit: usize) -> Result<Numbers, Tro
 }
 
 fn is_reply(line: &[u8], w: Word) -> bool {
-    matches!(line.get(w.from..w.to), Some(b"reply"))
+    matches!(line.get(w.from..w.to), Some(word) if text::same(word, b"reply"))
 }
 
 // The word `reply` of a post, the words of which begin at a place; the empty word at the end of the line where there is none. It stands behind the partner
