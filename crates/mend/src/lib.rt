@@ -10,9 +10,8 @@ ghost use Rattle.plan.specs.Answers as plan_answers;
 ghost use Rattle.plan.specs.Found.{refused};
 ghost use Rattle.plan.specs.Read.{read_plan};
 
-pub use plan::Refusal;
-
 use numbers::Trouble;
+pub use plan::Refusal;
 use plan::table::LENGTH;
 
 // How many bytes were written, and how many groups were cut.

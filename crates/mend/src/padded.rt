@@ -70,6 +70,7 @@ pub(crate) fn place_of(s: &[u8], q: usize) -> usize
 {
     let mut at: usize = 0;
     let mut p: usize = 0;
+    // Stays: the places jump, each by a number of unknown length, and the loop ends by a place.
     while p < q {
         let Ok(Number { value, next }) = padded_at(s, at) else {
             break;

@@ -25,6 +25,7 @@ fn column(table: &Table, k: usize, j: usize) -> usize
 }
 
 // Activity or arm k of the plan s, as the very part of s that spells it; 16 where there is no activity k, a bad plan's own number.
+// Stays: a refusal is its number, which the C interface gives as it is (`show_number` of boundary, and so moonhalyard_show).
 #[tactic(auto, using(crate::proofs::ShowReads::showing), unfolding(plan::specs::Answers::answer_of, crate::specs::Shown::shown_part, crate::specs::Shown::shown_start, crate::specs::Shown::shown_refusal))]
 pub fn show<'a>(s: &'a [u8], k: usize) -> Result<Shown<'a>, u32>
     ensures part { part_of result ≡ shown_part (read_plan s.now) s.now k }

@@ -6,8 +6,8 @@ use Rattle.numbers.specs.declared.Trouble.TheVariants.{Short, Bad}
 use Rattle.numbers.specs.Number.{got, last_group, groups, number_at}
 use Rattle.numbers.proofs.Groups.{groups-short, groups-large, groups-last, groups-more}
 use Rattle.numbers.proofs.read.Invariants.{room, Reading}
+use borrow.Author.Rules.{rules}
 use Rattle.numbers.proofs.read.Goals as goal
-use Rattle.numbers.proofs.read.Goals.{then-sum-gt4294967295-via-then-sum-gt4294967295, then-sum-gt4294967295-via-else-sum-gt4294967295+then-i-gt0, then-b-eq0, else-b-eq0}
 
 room_small : (k : ℕ) → room k ≤ 34359738368
 room_small zero = omega arith
@@ -84,15 +84,13 @@ returns-in_default c = short c.loop-i.invariant c.loop-i-test.true (omega (arith
 pub returns-then-sum-gt4294967295 : goal.returns-then-sum-gt4294967295
 returns-then-sum-gt4294967295 c =
     let h = c.in-Some.ensures.lookup in
-    elim c.then-sum-gt4294967295.branch [
-      | then-sum-gt4294967295-via-then-sum-gt4294967295 w ↦ large c.loop-i.invariant c.loop-i-test.true h.3.0 (c.from-b.ensures ∙ h.3.1 0) (omega arith)
-      | then-sum-gt4294967295-via-else-sum-gt4294967295+then-i-gt0 w ↦ padded c.loop-i.invariant c.loop-i-test.true h.3.0 (c.from-b.ensures ∙ h.3.1 0) (omega arith) (omega arith) (omega arith)
-    ]
+    let e = c.from-b.ensures ∙ h.3.1 0 in
+    grind (arith, large c.loop-i.invariant c.loop-i-test.true h.3.0 e, padded c.loop-i.invariant c.loop-i-test.true h.3.0 e)
 
 pub returns-then-b-lt128 : goal.returns-then-b-lt128
 returns-then-b-lt128 c =
     let h = c.in-Some.ensures.lookup in
-    value c.loop-i.invariant c.loop-i-test.true h.3.0 (c.from-b.ensures ∙ h.3.1 0) (omega arith) c.if-b-lt128.true c.if-i-gt0.either
+    value c.loop-i.invariant c.loop-i-test.true h.3.0 (c.from-b.ensures ∙ h.3.1 0) (omega arith) c.if-b-lt128.true (search rules)
 
 pub overflow_mul-sum : goal.overflow_mul-sum
 overflow_mul-sum c = omega (arith, part c.loop-i.invariant c.loop-i-test.true c.from-b.result)
