@@ -59,7 +59,8 @@ fn run_by(
             };
         }
         state.orders[a.slot] = c.order;
-        state.messages = c.messages;
+        let messages = c.messages;
+        state.messages = messages;
         state.waiting = c.waiting;
         y = c.tally;
         *budget -= 1;

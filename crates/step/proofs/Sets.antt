@@ -4,7 +4,7 @@ use Rattle.order.proofs.Whole.{order-whole}
 use Rattle.step.proofs.StepReturns.{step-beyond, step-refused, step-taken}
 use Rattle.step.proofs.Taken.{counted-full, counted-more, failed-is, given_is, handled-is, left_is, mail-adds, mail-arm, mail-asking, mail-far, mail-held, mail-none, mail-raises, mail-receive, mail-send, moves-starts, moves-steps, moves_from, next-is, none_is, reply-held, reply-none, sending-done, sending-many, sending-more, sending-starts, start_is, values-none, values-there, well-is}
 
-pub ruleset step_by = (state-whole, step-taken, step-beyond, step-refused)
+pub ruleset step_by = (step-taken, step-beyond, step-refused)
 
 pub ruleset count_end = (none_is, well-is, handled-is, failed-is, left_is)
 

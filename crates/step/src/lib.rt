@@ -120,11 +120,12 @@ pub fn take_step(state: State, choice: usize, tally: Tally) -> Stepped
     }
     let mut orders = state.orders;
     orders[answer.slot] = c.order;
+    let messages = c.messages;
     Stepped {
         answer,
         state: State {
             orders,
-            messages: c.messages,
+            messages,
             waiting: c.waiting,
             ..state
         },

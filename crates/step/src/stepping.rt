@@ -196,6 +196,7 @@ fn moved_from(
 {
     let n = next_of(table, activities, messages, order, activity, place);
     let w = messages_after(table, activities, messages, waiting, order, activity, place);
+    let messages = w.messages;
     Change {
         answer: Step {
             refusal: 0,
@@ -206,7 +207,7 @@ fn moved_from(
             fault: n.fault,
         },
         order: n.order,
-        messages: w.messages,
+        messages,
         waiting: w.waiting,
         tally: count_end(n.end, tally),
     }
