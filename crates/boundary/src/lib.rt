@@ -28,6 +28,7 @@ fn triple_of(refusal: u32, start: usize, length: usize) -> u64
         + (length as u64) % 16777216
 }
 
+#[tactic(auto, unfolding(crate::specs::Packed::accept_number))]
 fn number_of(a: Answer) -> u64
     ensures { result ≡ accept_number a }
 {
@@ -57,6 +58,7 @@ pub fn moonhalyard_show(s: &[u8], k: u32) -> u64
 }
 
 // How much is offered, as one number.
+#[tactic(auto, unfolding(crate::specs::Engine::offers_number))]
 fn offers_number(x: Offered) -> u64
     ensures { result ≡ engine.offers_number x }
 {
