@@ -2,6 +2,7 @@
 use mathlib.Core.Path.{◌≡◌, refl, sym, ap, ◌∙◌}
 use mathlib.Core.Bool.{Bool, true, false, cond, not, ◌&&◌, false≢true}
 use mathlib.Core.List.{List, [], ◌∷◌, ◌++◌}
+use mathlib.Core.Logic.{◌⊎◌, inl, inr}
 use Prim.Native.Nat.{ℕ, zero, suc, ◌+◌, ◌*◌, ◌-◌, ◌<◌, ◌≤◌}
 use native.Mathlib.Omega.{arith}
 use borrow.Author.Tests.{eq-eqb, ne_eqb, eqb-true, ltb-true, leb-true}
@@ -19,11 +20,13 @@ use Rattle.order.specs.declared.Entered.{Entered}
 use Rattle.order.specs.declared.Order.{Order}
 use Rattle.order.specs.declared.Way.TheVariants.{Over, Raising, Leaving}
 use Rattle.order.specs.declared.Went.{Went}
-use Rattle.order.specs.declared.Worth.{Worth}
+use Rattle.std.specs.Prelude.{Result, Ok, Err, OkIff}
+use Rattle.std.specs.Result.{result_unwrap_or}
+use Rattle.order.specs.declared.fault.Fault.{Fault}
 use Rattle.order.specs.Acting.{finishes, enters, again, repeats, all_bound, reaches, itself}
 use Rattle.order.specs.Answering.{went, is_over, worth_of, Evaluates, begun_of, Begins, Clears, KindOf, for_part, not_for, handed, Forgets, Remembers, Hands, runs_of, finishes_of, raises_of, leaves_of, CountOf, Names, Tuple, to_at, AllBound, Reaches, Binds, Enters, SendStep, StepOf, Roomy, Closes, HandsOn, StepsAt, Repeats, WorthAt}
 use Rattle.order.specs.Begin.{begin, part, part_at, begin_part}
-use Rattle.order.specs.Expression.{plain_raise, unbound_variable, no_such_partner, Value, fault, value, evaluate, is_true}
+use Rattle.order.specs.Expression.{plain_raise, unbound_variable, no_such_partner, value, evaluate, is_true}
 use Rattle.order.specs.Lists.{only}
 use Rattle.order.specs.Scope.{begun_in, where_over, scope_at, is_for, list_of, forgetting, adds, closing}
 use Rattle.order.specs.Stands.{End, Line, Stands}
@@ -56,7 +59,7 @@ pub binds-is : (v x : ℕ) (o : Order) → Binds v x o (binding v x o)
 binds-is v x o = record { is = λ l. refl }
 
 -- `worth_at`
-pub worth-is : {t : List ℕ} {k : ℕ} {o : Order} {n : ℕ} {w : Worth} → n ≡ get_or t (k * 13 + 9) 0 → Evaluates t o n 8 w → WorthAt t k o w
+pub worth-is : {t : List ℕ} {k : ℕ} {o : Order} {n : ℕ} {w : Result ℕ Fault} → n ≡ get_or t (k * 13 + 9) 0 → Evaluates t o n 8 w → WorthAt t k o w
 worth-is q x = record { is = λ long e m vars h f s l. x.is long e vars f (rw (q, h) s) l }
 
 -- `enters`
@@ -145,12 +148,12 @@ module _ (t : List ℕ) (k : ℕ) (o : Order) (h : k < 256) (w : length o.bound 
     send-misses f g = record { is = λ to q vs l pt s. rw (sym (send-bound to q vs l s) ∙ e, sym (send-reaches to q vs l s) ∙ f) g }
 
 -- `sets`
-pub record SetRow (t : List ℕ) (k v : ℕ) (o : Order) (e : Exp) (w : Worth) : Type 0 where
+pub record SetRow (t : List ℕ) (k v : ℕ) (o : Order) (e : Exp) (w : Result ℕ Fault) : Type 0 where
   pub variable : get_or t (k * 13 + 8) 0 ≡ v
   pub small : v < 16
   pub worth : w ≡ worth_of (evaluate e o)
 
-set-row : (t : List ℕ) (k v : ℕ) (o : Order) (e : Exp) (l : Acts) {w : Worth} → WorthAt t k o w → Stands (act (setting v e) l) k t → SetRow t k v o e w
+set-row : (t : List ℕ) (k v : ℕ) (o : Order) (e : Exp) (l : Acts) {w : Result ℕ Fault} → WorthAt t k o w → Stands (act (setting v e) l) k t → SetRow t k v o e w
 unfolding Stands row_of SpellsOwn own_within
 set-row t k v o e l x s =
     both (not s.first.arms) _ s.first.limits (λ a b.
@@ -162,8 +165,8 @@ set-row t k v o e l x s =
       worth = x.is s.first.long e s.first.node s.first.variables s.first.row.expression s.first.few s.first.expression i;
     }))))
 
-module _ (t : List ℕ) (k : ℕ) (o : Order) {w : Worth} (x : WorthAt t k o w) where
-  pub set-raises : {f : ℕ} → w ≡ Worth.Fault f → {r : Went} → r ≡ raises_of f k o → StepOf 3 t k o r
+module _ (t : List ℕ) (k : ℕ) (o : Order) {w : Result ℕ Fault} (x : WorthAt t k o w) where
+  pub set-raises : {f : Fault} → w ≡ Err f → {r : Went} → r ≡ raises_of f.number k o → StepOf 3 t k o r
   unfolding itself
   set-raises h {r} g = record {
     is = λ own l pt n s.
@@ -171,7 +174,7 @@ module _ (t : List ℕ) (k : ℕ) (o : Order) {w : Worth} (x : WorthAt t k o w) 
         (λ v e s. rw (fault-known (evaluate e o) (set-row t k v o e l x s).worth h) g) own n s;
   }
 
-  pub set-binds : {y : ℕ} → w ≡ Worth.Value y → {v : ℕ} → v ≡ get_or t (k * 13 + 8) 0 → {p : Order} → Binds v y o p → {r : Went} → r ≡ finishes_of k p → StepOf 3 t k o r
+  pub set-binds : {y : ℕ} → w ≡ Ok y → {v : ℕ} → v ≡ get_or t (k * 13 + 8) 0 → {p : Order} → Binds v y o p → {r : Went} → r ≡ finishes_of k p → StepOf 3 t k o r
   unfolding itself
   set-binds {y} h {v} q {p} z {r} g = record {
     is = λ own l pt n s.
@@ -195,28 +198,28 @@ number-row t k number l s =
     both (eqb (count l) 0) _ b (λ c d.
     both (leb 16 (suc number)) _ (rw (ne_eqb (suc number) 0 (λ z. omega (arith, z))) at d) (λ e f. record { is = s.first.row.partner; small = leb-true (suc number) 255 f })))
 
-module _ (t : List ℕ) (k : ℕ) (o : Order) {n : ℕ} (q : n ≡ get_or t (k * 13 + 1) 0) where
-  pub numbered-raises : {r : Went} → r ≡ raises_of n k o → StepOf 13 t k o r
-  unfolding itself
-  numbered-raises {r} g = record {
-    is = λ own l pt h s.
-        of-kind 13 (λ y. Stands (act y l) k t → r ≡ went (itself y l pt k o))
-        (λ m s. rw (q ∙ (number-row t k m l s).is) at g) own h s;
-  }
+number-kept : {E : Type 0} {x : ℕ} (m : Result ℕ E) → OkIff m (x < 256) x → x ≤ 255 → result_unwrap_or m 0 ≡ x
+number-kept (Ok y) h l = h.1
+number-kept (Err e) h l = absurd (h (omega arith))
 
-  pub numbered-none : 255 < n → {r : Went} → StepOf 13 t k o r
-  numbered-none i {r} = record {
-    is = λ own l pt h s.
-        of-kind 13 (λ y. Stands (act y l) k t → r ≡ went (itself y l pt k o))
-        (λ m s. absurd (omega (arith, i, q, (number-row t k m l s).is, (number-row t k m l s).small))) own h s;
-  }
+pub numbered-is : (t : List ℕ) (k : ℕ) (o : Order) {E : Type 0} (m : Result ℕ E) → OkIff m (get_or t (k * 13 + 1) 0 < 256) (get_or t (k * 13 + 1) 0)
+    → {n : ℕ} → n ≡ result_unwrap_or m 0 → {r : Went} → r ≡ raises_of n k o → StepOf 13 t k o r
+unfolding itself
+numbered-is t k o m h {n} q {r} g = record {
+  is = λ own l pt z s.
+      of-kind 13 (λ y. Stands (act y l) k t → r ≡ went (itself y l pt k o))
+      (λ number s.
+      let w = number-row t k number l s in
+      let i : n ≡ suc number = q ∙ (number-kept m h (omega (arith, w.is, w.small)) ∙ w.is) in
+      rw i at g) own z s;
+}
 
 -- `chooses`
-pub record ChooseRow (o : Order) (e : Exp) (l : Acts) (w : Worth) : Type 0 where
+pub record ChooseRow (o : Order) (e : Exp) (l : Acts) (w : Result ℕ Fault) : Type 0 where
   pub two : count l ≡ 2
   pub worth : w ≡ worth_of (evaluate e o)
 
-choose-row : (t : List ℕ) (k : ℕ) (o : Order) (e : Exp) (l : Acts) {w : Worth} → WorthAt t k o w → Stands (act (choose e) l) k t → ChooseRow o e l w
+choose-row : (t : List ℕ) (k : ℕ) (o : Order) (e : Exp) (l : Acts) {w : Result ℕ Fault} → WorthAt t k o w → Stands (act (choose e) l) k t → ChooseRow o e l w
 unfolding Stands row_of SpellsOwn own_within
 choose-row t k o e l x s =
     both (not s.first.arms) _ s.first.limits (λ a b.
@@ -232,8 +235,8 @@ unfolding itself begin_part part part_at
 chosen e a b pt k o y h true i = rw (h, i)
 chosen e a b pt k o y h false i = rw (h, i)
 
-module _ (t : List ℕ) (k : ℕ) (o : Order) {w : Worth} (x : WorthAt t k o w) where
-  pub choose-raises : {f : ℕ} → w ≡ Worth.Fault f → {r : Went} → r ≡ raises_of f k o → StepOf 6 t k o r
+module _ (t : List ℕ) (k : ℕ) (o : Order) {w : Result ℕ Fault} (x : WorthAt t k o w) where
+  pub choose-raises : {f : Fault} → w ≡ Err f → {r : Went} → r ≡ raises_of f.number k o → StepOf 6 t k o r
   unfolding itself
   choose-raises h {r} g = record {
     is = λ own l pt n s.
@@ -241,7 +244,7 @@ module _ (t : List ℕ) (k : ℕ) (o : Order) {w : Worth} (x : WorthAt t k o w) 
         (λ e s. rw (fault-known (evaluate e o) (choose-row t k o e l x s).worth h) g) own n s;
   }
 
-  module _ {y : ℕ} (h : w ≡ Worth.Value y) where
+  module _ {y : ℕ} (h : w ≡ Ok y) where
     pub choose-first : (y ≡ 0 → ⊥) → {r : Went} → Enters t k (k + 1) o r → StepOf 6 t k o r
     unfolding Stands
     choose-first z {r} g = record {
@@ -295,11 +298,11 @@ module _ (t : List ℕ) (k : ℕ) (o : Order) {e : ℕ} (z : End t k e) {n : Lis
   }
 
 -- `decides`
-pub record RepeatRow (o : Order) (e : Exp) (l : Acts) (w : Worth) : Type 0 where
+pub record RepeatRow (o : Order) (e : Exp) (l : Acts) (w : Result ℕ Fault) : Type 0 where
   pub one : count l ≡ 1
   pub worth : w ≡ worth_of (evaluate e o)
 
-repeat-row : (t : List ℕ) (k : ℕ) (o : Order) (e : Exp) (l : Acts) {w : Worth} → WorthAt t k o w → Stands (act (repeat e) l) k t → RepeatRow o e l w
+repeat-row : (t : List ℕ) (k : ℕ) (o : Order) (e : Exp) (l : Acts) {w : Result ℕ Fault} → WorthAt t k o w → Stands (act (repeat e) l) k t → RepeatRow o e l w
 unfolding Stands row_of SpellsOwn own_within
 repeat-row t k o e l x s =
     both (not s.first.arms) _ s.first.limits (λ a b.
@@ -314,8 +317,8 @@ unfolding itself
 decided e l pt k o y h true i = rw h (yes (is_true y) (repeats k l o) (finishes k o) i)
 decided e l pt k o y h false i = rw h (no (is_true y) (repeats k l o) (finishes k o) i)
 
-module _ (t : List ℕ) (k : ℕ) (o : Order) {w : Worth} (x : WorthAt t k o w) where
-  pub decide-raises : {f : ℕ} → w ≡ Worth.Fault f → {r : Went} → r ≡ raises_of f k o → StepOf 7 t k o r
+module _ (t : List ℕ) (k : ℕ) (o : Order) {w : Result ℕ Fault} (x : WorthAt t k o w) where
+  pub decide-raises : {f : Fault} → w ≡ Err f → {r : Went} → r ≡ raises_of f.number k o → StepOf 7 t k o r
   unfolding itself
   decide-raises h {r} g = record {
     is = λ own l pt n s.
@@ -323,7 +326,7 @@ module _ (t : List ℕ) (k : ℕ) (o : Order) {w : Worth} (x : WorthAt t k o w) 
         (λ e s. rw (fault-known (evaluate e o) (repeat-row t k o e l x s).worth h) g) own n s;
   }
 
-  module _ {y : ℕ} (h : w ≡ Worth.Value y) where
+  module _ {y : ℕ} (h : w ≡ Ok y) where
     pub decide-over : y ≡ 0 → {r : Went} → r ≡ finishes_of k o → StepOf 7 t k o r
     decide-over z {r} g = record {
       is = λ own l pt n s.
@@ -409,7 +412,7 @@ module _ (t : List ℕ) (pt k : ℕ) (o : Order) {kd : ℕ} (q : KindOf t k kd) 
   below : (own : Own) (l : Acts) → Stands (act own l) k t → k < 256
   below own l s = omega (arith, stands-inside (act own l) k t s, size-pos (act own l))
 
-  pub itself-closes : kd ≡ 11 → {r : Went} → Closes pt k o r → StepsAt t pt k o r
+  itself-closes : kd ≡ 11 → {r : Went} → Closes pt k o r → StepsAt t pt k o r
   unfolding itself
   itself-closes e {r} x = record {
     is = λ own l d s room.
@@ -417,7 +420,7 @@ module _ (t : List ℕ) (pt k : ℕ) (o : Order) {kd : ℕ} (q : KindOf t k kd) 
   }
 
   -- fault parts by number come with an undo part
-  pub itself-numbered : kd ≡ 14 → {r : Went} → Closes pt k o r → StepsAt t pt k o r
+  itself-numbered : kd ≡ 14 → {r : Went} → Closes pt k o r → StepsAt t pt k o r
   unfolding itself
   itself-numbered e {r} x = record {
     is = λ own l d s room.
@@ -438,29 +441,42 @@ module _ (t : List ℕ) (pt k : ℕ) (o : Order) {kd : ℕ} (q : KindOf t k kd) 
     is = λ own l d s room. of-kind 12 (λ w. r ≡ went (itself w l pt k o)) (x.is (below own l s) d [] l) own (sym (row-kind q own l s) ∙ e);
   }
 
-  pub itself-sends : kd ≡ 1 → {r : Went} → SendStep t k o r → StepsAt t pt k o r
+  itself-sends : kd ≡ 1 → {r : Went} → SendStep t k o r → StepsAt t pt k o r
   itself-sends e {r} x = record {
     is = λ own l d s room.
         of-kind 1 (λ w. Stands (act w l) k t → r ≡ went (itself w l pt k o)) (λ p a vs s. x.is (to_partner p) a vs l pt s) own (sym (row-kind q own l s) ∙ e) s;
   }
 
-  pub itself-sends-held : kd ≡ 17 → {r : Went} → SendStep t k o r → StepsAt t pt k o r
+  itself-sends-held : kd ≡ 17 → {r : Went} → SendStep t k o r → StepsAt t pt k o r
   itself-sends-held e {r} x = record {
     is = λ own l d s room.
         of-kind 17 (λ w. Stands (act w l) k t → r ≡ went (itself w l pt k o)) (λ v p a vs s. x.is (to_held v p) a vs l pt s) own (sym (row-kind q own l s) ∙ e) s;
   }
 
-  pub itself-receives : kd ≡ 2 → {r : Went} → r ≡ finishes_of k o → StepsAt t pt k o r
+  itself-receives : kd ≡ 2 → {r : Went} → r ≡ finishes_of k o → StepsAt t pt k o r
   unfolding itself
   itself-receives e {r} g = record {
     is = λ own l d s room. of-kind 2 (λ w. r ≡ went (itself w l pt k o)) (λ p q vs. g) own (sym (row-kind q own l s) ∙ e);
   }
 
-  pub itself-receives-asking : kd ≡ 18 → {r : Went} → r ≡ finishes_of k o → StepsAt t pt k o r
+  itself-receives-asking : kd ≡ 18 → {r : Went} → r ≡ finishes_of k o → StepsAt t pt k o r
   unfolding itself
   itself-receives-asking e {r} g = record {
     is = λ own l d s room. of-kind 18 (λ w. r ≡ went (itself w l pt k o)) (λ p v q vs. g) own (sym (row-kind q own l s) ∙ e);
   }
+
+  -- of the kinds that have one step
+  pub itself-send : (kd ≡ 1) ⊎ (kd ≡ 17) → {r : Went} → SendStep t k o r → StepsAt t pt k o r
+  itself-send (inl e) x = itself-sends e x
+  itself-send (inr e) x = itself-sends-held e x
+
+  pub itself-receive : (kd ≡ 2) ⊎ (kd ≡ 18) → {r : Went} → r ≡ finishes_of k o → StepsAt t pt k o r
+  itself-receive (inl e) g = itself-receives e g
+  itself-receive (inr e) g = itself-receives-asking e g
+
+  pub itself-close : (kd ≡ 11) ⊎ (kd ≡ 14) → {r : Went} → Closes pt k o r → StepsAt t pt k o r
+  itself-close (inl e) x = itself-closes e x
+  itself-close (inr e) x = itself-numbered e x
 
   pub itself-raises : kd ≡ 4 → {r : Went} → r ≡ raises_of plain_raise k o → StepsAt t pt k o r
   unfolding itself
@@ -470,15 +486,15 @@ module _ (t : List ℕ) (pt k : ℕ) (o : Order) {kd : ℕ} (q : KindOf t k kd) 
   unfolding itself
   itself-leaves e {r} g = record { is = λ own l d s room. of-kind 5 (λ w. r ≡ went (itself w l pt k o)) g own (sym (row-kind q own l s) ∙ e) }
 
-  module _ (h1 : kd ≡ 1 → ⊥) (h2 : kd ≡ 2 → ⊥) (h3 : kd ≡ 3 → ⊥) (h4 : kd ≡ 4 → ⊥) (h5 : kd ≡ 5 → ⊥) (h6 : kd ≡ 6 → ⊥) (h7 : kd ≡ 7 → ⊥)
-      (h11 : kd ≡ 11 → ⊥) (h12 : kd ≡ 12 → ⊥) (h13 : kd ≡ 13 → ⊥) (h14 : kd ≡ 14 → ⊥) (h17 : kd ≡ 17 → ⊥) (h18 : kd ≡ 18 → ⊥) (h255 : kd ≡ 255 → ⊥) where
+  module _ (h1 : (kd ≡ 1) ⊎ (kd ≡ 17) → ⊥) (h2 : (kd ≡ 2) ⊎ (kd ≡ 18) → ⊥) (h3 : kd ≡ 3 → ⊥) (h4 : kd ≡ 4 → ⊥) (h13 : kd ≡ 13 → ⊥) (h5 : kd ≡ 5 → ⊥) (h6 : kd ≡ 6 → ⊥)
+      (h7 : kd ≡ 7 → ⊥) (h11 : (kd ≡ 11) ⊎ (kd ≡ 14) → ⊥) (h12 : kd ≡ 12 → ⊥) (h255 : kd ≡ 255 → ⊥) where
     runs-itself : {r : Went} → r ≡ runs_of o → (own : Own) (l : Acts) → kd ≡ kind own → r ≡ went (itself own l pt k o)
     unfolding itself kind
     runs-itself g empty l e = g
-    runs-itself g (send (to_partner p) q vs) l e = absurd (h1 e)
-    runs-itself g (send (to_held v r) q vs) l e = absurd (h17 e)
-    runs-itself g (receive (from_partner p) q vs) l e = absurd (h2 e)
-    runs-itself g (receive (from_asking p v) q vs) l e = absurd (h18 e)
+    runs-itself g (send (to_partner p) q vs) l e = absurd (h1 (inl e))
+    runs-itself g (send (to_held v r) q vs) l e = absurd (h1 (inr e))
+    runs-itself g (receive (from_partner p) q vs) l e = absurd (h2 (inl e))
+    runs-itself g (receive (from_asking p v) q vs) l e = absurd (h2 (inr e))
     runs-itself g (setting v x) l e = absurd (h3 e)
     runs-itself g (raise zero) l e = absurd (h4 e)
     runs-itself g (raise (suc number)) l e = absurd (h13 e)
@@ -488,9 +504,9 @@ module _ (t : List ℕ) (pt k : ℕ) (o : Order) {kd : ℕ} (q : KindOf t k kd) 
     runs-itself g sequence l e = g
     runs-itself g flow l e = g
     runs-itself g pick l e = g
-    runs-itself g (scope [] true) l e = absurd (h11 e)
+    runs-itself g (scope [] true) l e = absurd (h11 (inl e))
     runs-itself g (scope [] false) l e = absurd (h12 e)
-    runs-itself g (scope (n ∷ ns) v) l e = absurd (h14 e)
+    runs-itself g (scope (n ∷ ns) v) l e = absurd (h11 (inr e))
     runs-itself g (arm p q vs) l e = absurd (h255 e)
 
     pub itself-runs : {r : Went} → r ≡ runs_of o → StepsAt t pt k o r

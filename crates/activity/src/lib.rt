@@ -7,11 +7,12 @@ ghost use Rattle.order.specs.Answering.{runs_of, finishes_of, raises_of, leaves_
 
 use beginning::begin;
 use order::evaluation::evaluate_at;
-use order::marks::{begun_in, cleared, is_over, marked, runs, with_marks};
+use order::fault::{self, Fault};
+use order::marks::{begun_in, cleared, marked, runs, with_marks};
 use order::memory::{forgetting, handed_on, remembered};
 use order::rows::{end_of, kind_of};
 use order::sending::{all_bound, reaches};
-use order::{Order, Way, Went, Worth, fault, mark};
+use order::{Order, Way, Went, mark};
 use plan::kind;
 use plan::table::{EXPRESSION, PARTNER, Table, VARIABLE, WIDTH};
 
@@ -19,10 +20,9 @@ use plan::table::{EXPRESSION, PARTNER, Table, VARIABLE, WIDTH};
 pub fn finishes(k: usize, order: Order) -> Went
     ensures { result ≡ finishes_of k order }
 {
-    let o = marked(k, mark::IDLE, order);
     Went {
         way: Way::Over,
-        order: o,
+        order: marked(k, mark::IDLE, order),
     }
 }
 
@@ -30,10 +30,9 @@ pub fn finishes(k: usize, order: Order) -> Went
 pub fn raises(number: u8, k: usize, order: Order) -> Went
     ensures { result ≡ raises_of number k order }
 {
-    let o = marked(k, mark::IDLE, order);
     Went {
         way: Way::Raising { number },
-        order: o,
+        order: marked(k, mark::IDLE, order),
     }
 }
 
@@ -41,10 +40,9 @@ pub fn raises(number: u8, k: usize, order: Order) -> Went
 fn leaves(k: usize, order: Order) -> Went
     ensures { result ≡ leaves_of k order }
 {
-    let o = marked(k, mark::IDLE, order);
     Went {
         way: Way::Leaving,
-        order: o,
+        order: marked(k, mark::IDLE, order),
     }
 }
 
@@ -52,13 +50,12 @@ fn leaves(k: usize, order: Order) -> Went
 pub fn binding(v: u32, x: u32, order: Order) -> Order
     ensures { Binds v x order result }
 {
-    if 16 <= v {
-        return order;
-    }
     let i = v as usize;
     let mut o = order;
-    o.values[i] = x;
-    o.bound[i] = 1;
+    if i < 16 {
+        o.values[i] = x;
+        o.bound[i] = 1;
+    }
     o
 }
 
@@ -67,22 +64,19 @@ fn enters(table: &Table, k: usize, c: usize, order: Order) -> Went
     ensures { Enters table.now k c order result }
 {
     let o = marked(k, mark::INSIDE, order);
-    let m = o.marks;
-    let r = begun_in(o, begin(table, c, m));
-    let w = r.way;
-    if is_over(w) {
-        let p = r.order;
-        return finishes(k, p);
+    let r = begun_in(o, begin(table, c, o.marks));
+    if r.way.is_over() {
+        finishes(k, r.order)
+    } else {
+        r
     }
-    r
 }
 
 // Repeat k decides again.
 pub fn again(k: usize, order: Order) -> Went
     ensures { result ≡ runs_of (marked_of k 1 order) }
 {
-    let o = marked(k, mark::ACTIVE, order);
-    runs(o)
+    runs(marked(k, mark::ACTIVE, order))
 }
 
 // Repeat k begins its body afresh.
@@ -90,18 +84,14 @@ fn repeats(table: &Table, k: usize, order: Order) -> Went
     requires { k < 256 }
     ensures { Repeats table.now k order result }
 {
-    let e = end_of(table, k);
-    let m = order.marks;
-    let n = cleared(k + 1, e, m);
-    let o = marked(k, mark::INSIDE, with_marks(n, order));
-    let q = o.marks;
-    let r = begun_in(o, begin(table, k + 1, q));
-    let w = r.way;
-    if is_over(w) {
-        let p = r.order;
-        return again(k, p);
+    let marks = cleared(k + 1, end_of(table, k), order.marks);
+    let o = marked(k, mark::INSIDE, with_marks(marks, order));
+    let r = begun_in(o, begin(table, k + 1, o.marks));
+    if r.way.is_over() {
+        again(k, r.order)
+    } else {
+        r
     }
-    r
 }
 
 // Scope k closes, which stands in the part q and has an undo part. Where it has no room, which no step that is offered leads to, the order stays as it is.
@@ -110,12 +100,11 @@ fn closes(q: usize, k: usize, order: Order) -> Went
     ensures { Closes q k order result }
 {
     let f = forgetting(k + 1, order);
-    let n = f.kept;
-    if n < 32 {
-        let p = remembered(k, q, f);
-        return finishes(k, p);
+    if f.kept < 32 {
+        finishes(k, remembered(k, q, f))
+    } else {
+        runs(order)
     }
-    runs(order)
 }
 
 // Scope k closes, which stands in the part q and has no undo part: it is not remembered, and hands on what is remembered for it.
@@ -123,8 +112,7 @@ fn hands_on(q: usize, k: usize, order: Order) -> Went
     requires { k < 256 }
     ensures { HandsOn q k order result }
 {
-    let p = handed_on(k + 1, q, order);
-    finishes(k, p)
+    finishes(k, handed_on(k + 1, q, order))
 }
 
 // A send: a variable that is not bound, its partner's too, is a fault before a partner that is none.
@@ -132,31 +120,21 @@ fn sends(table: &Table, k: usize, order: Order) -> Went
     requires { k < 256 }
     ensures { SendStep table.now k order result }
 {
-    let bound = order.bound;
-    if all_bound(table, k, &bound) {
-        let values = order.values;
-        if reaches(table, k, &values) {
-            return finishes(k, order);
-        }
-        return raises(fault::NO_SUCH_PARTNER, k, order);
+    if !all_bound(table, k, &order.bound) {
+        raises(fault::UNBOUND_VARIABLE, k, order)
+    } else if !reaches(table, k, &order.values) {
+        raises(fault::NO_SUCH_PARTNER, k, order)
+    } else {
+        finishes(k, order)
     }
-    raises(fault::UNBOUND_VARIABLE, k, order)
-}
-
-// The number of a node, as an index.
-fn node_of(m: u32) -> usize
-    ensures { result ≡ m }
-{
-    m as usize
 }
 
 // What the expression of row k comes to.
-fn worth_at(table: &Table, k: usize, order: Order) -> Worth
+fn worth_at(table: &Table, k: usize, order: Order) -> Result<u32, Fault>
     requires { k < 256 }
     ensures { WorthAt table.now k order result }
 {
-    let m = node_of(table[k * WIDTH + EXPRESSION]);
-    evaluate_at(table, order, m, 8)
+    evaluate_at(table, order, table[k * WIDTH + EXPRESSION] as usize, 8)
 }
 
 // A set.
@@ -164,14 +142,9 @@ fn sets(table: &Table, k: usize, order: Order) -> Went
     requires { k < 256 }
     ensures { StepOf 3 table.now k order result }
 {
-    let v = table[k * WIDTH + VARIABLE];
-    let w = worth_at(table, k, order);
-    match w {
-        Worth::Fault { number } => raises(number, k, order),
-        Worth::Value { value } => {
-            let o = binding(v, value, order);
-            finishes(k, o)
-        }
+    match worth_at(table, k, order) {
+        Err(fault) => raises(fault.number, k, order),
+        Ok(value) => finishes(k, binding(table[k * WIDTH + VARIABLE], value, order)),
     }
 }
 
@@ -180,11 +153,8 @@ fn raises_its_number(table: &Table, k: usize, order: Order) -> Went
     requires { k < 256 }
     ensures { StepOf 13 table.now k order result }
 {
-    let n = table[k * WIDTH + PARTNER];
-    if 255 < n {
-        return raises(fault::PLAIN_RAISE, k, order);
-    }
-    raises(n as u8, k, order)
+    let number = u8::try_from(table[k * WIDTH + PARTNER]).unwrap_or(fault::PLAIN_RAISE);
+    raises(number, k, order)
 }
 
 // A choose decides.
@@ -192,16 +162,10 @@ fn chooses(table: &Table, k: usize, order: Order) -> Went
     requires { k < 256 }
     ensures { StepOf 6 table.now k order result }
 {
-    let w = worth_at(table, k, order);
-    match w {
-        Worth::Fault { number } => raises(number, k, order),
-        Worth::Value { value } => {
-            if value == 0 {
-                let c = end_of(table, k + 1);
-                return enters(table, k, c, order);
-            }
-            enters(table, k, k + 1, order)
-        }
+    match worth_at(table, k, order) {
+        Err(fault) => raises(fault.number, k, order),
+        Ok(0) => enters(table, k, end_of(table, k + 1), order),
+        Ok(_) => enters(table, k, k + 1, order),
     }
 }
 
@@ -210,15 +174,10 @@ fn decides(table: &Table, k: usize, order: Order) -> Went
     requires { k < 256 }
     ensures { StepOf 7 table.now k order result }
 {
-    let w = worth_at(table, k, order);
-    match w {
-        Worth::Fault { number } => raises(number, k, order),
-        Worth::Value { value } => {
-            if value == 0 {
-                return finishes(k, order);
-            }
-            repeats(table, k, order)
-        }
+    match worth_at(table, k, order) {
+        Err(fault) => raises(fault.number, k, order),
+        Ok(0) => finishes(k, order),
+        Ok(_) => repeats(table, k, order),
     }
 }
 
@@ -227,8 +186,7 @@ fn takes(table: &Table, k: usize, order: Order) -> Went
     requires { k < 256 }
     ensures { StepOf 255 table.now k order result }
 {
-    let m = order.marks;
-    begun_in(order, begin(table, k + 1, m))
+    begun_in(order, begin(table, k + 1, order.marks))
 }
 
 // Activity k has its step, where there is one. It stands in the part whose first activity has the number q.
@@ -238,20 +196,16 @@ pub fn itself(table: &Table, q: usize, k: usize, order: Order) -> Went
     if 256 <= k {
         return runs(order);
     }
-    let kind = kind_of(table, k);
-    match kind {
-        kind::SEND => sends(table, k, order),
-        kind::HELD_SEND => sends(table, k, order),
-        kind::RECEIVE => finishes(k, order),
-        kind::ASKING_RECEIVE => finishes(k, order),
+    match kind_of(table, k) {
+        kind::SEND | kind::HELD_SEND => sends(table, k, order),
+        kind::RECEIVE | kind::ASKING_RECEIVE => finishes(k, order),
         kind::SET => sets(table, k, order),
         kind::RAISE => raises(fault::PLAIN_RAISE, k, order),
         kind::NUMBERED_RAISE => raises_its_number(table, k, order),
         kind::LEAVE => leaves(k, order),
         kind::CHOOSE => chooses(table, k, order),
         kind::REPEAT => decides(table, k, order),
-        kind::SCOPE => closes(q, k, order),
-        kind::NUMBERED_SCOPE => closes(q, k, order),
+        kind::SCOPE | kind::NUMBERED_SCOPE => closes(q, k, order),
         kind::OPEN_SCOPE => hands_on(q, k, order),
         kind::ARM => takes(table, k, order),
         _ => runs(order),

@@ -2,11 +2,12 @@
 use mathlib.Core.Path.{◌≡◌, refl, sym, ap, ◌∙◌}
 use mathlib.Core.Bool.{Bool, true, false, cond, ◌&&◌, false≢true, and_assoc, and-true}
 use mathlib.Core.List.{List, [], ◌∷◌}
+use mathlib.Core.Logic.{◌⊎◌, inl, inr}
 use Prim.Native.Nat.{ℕ, zero, suc, ◌+◌, ◌<◌, ◌≤◌}
 use native.Mathlib.Omega.{arith}
 use borrow.Author.Tests.{ne_eqb}
 use lib.Dec.{eqb}
-use lib.ListN.{set, replicate}
+use lib.ListN.{set}
 use Rattle.plan.specs.Tree.{to_partner, to_held, from_partner, from_asking, Own, empty, send, receive, set as setting, raise, leave, choose, repeat, sequence, flow, pick, scope, arm, kind, Act, act, Acts, none, more, size, sizes}
 use Rattle.order.specs.declared.Entered.{Entered}
 use Rattle.order.specs.declared.Order.{Order}
@@ -15,22 +16,9 @@ use Rattle.order.specs.Answering.{KindOf, scope_kind, entered, throughout_of, ar
 use Rattle.order.specs.Begin.{Begun, throughout, around, in_turn, begin, begin_in_turn, begin_all, begin_first}
 use Rattle.order.specs.Event.{Event}
 use Rattle.order.specs.Stands.{End, Stands, StandAll}
-use Rattle.order.specs.State.{closing_of, no_order, with_marks, with_root}
+use Rattle.order.specs.State.{no_order, with_marks, with_root}
 use Rattle.order.proofs.PlanStands.{plan-stands}
 use Rattle.order.proofs.Standing.{size-pos, stands-inside, all-inside, stands-end, kind_at, row-kind, if_none, if-first, if-more, if-scope}
-
--- `throughout`, `around`
-pub throughout-over : (k : ℕ) (r : Entered) → r.over ≡ true → ◌≡◌ {A = Entered} (record { marks = set r.marks k 0; over = true }) (throughout_of k r)
-throughout-over k r e = rw e
-
-pub throughout-runs : (k : ℕ) (r : Entered) → r.over ≡ false → r ≡ throughout_of k r
-throughout-runs k r e = rw e
-
-pub around-over : (k : ℕ) (r : Entered) → r.over ≡ true → ◌≡◌ {A = Entered} (record { marks = set r.marks k 3; over = false }) (around_of k r)
-around-over k r e = rw e
-
-pub around-runs : (k : ℕ) (r : Entered) → r.over ≡ false → r ≡ around_of k r
-around-runs k r e = rw e
 
 -- how an activity of a kind begins
 abbrev begin_kind : (kind : ℕ) → Acts → (k : ℕ) → List ℕ → Entered
@@ -85,17 +73,12 @@ module _ (t : List ℕ) (k : ℕ) (ms : List ℕ) {kd : ℕ} (q : KindOf t k kd)
   begin-row : (own : Own) (l : Acts) → Stands (act own l) k t → entered (begin (act own l) k ms) ≡ begin_kind kd l k ms
   begin-row own l s = by_kind own l k ms ∙ rw (row-kind q own l s)
 
-  pub begin-empty : kd ≡ 0 → Begins t k ms (record { marks = ms; over = true })
-  begin-empty e = record { is = is }
+  pub begin-empty : (kd ≡ 0) ⊎ (kd ≡ 255) → Begins t k ms (record { marks = ms; over = true })
+  begin-empty e = record { is = is e }
     where
-      is : (a : Act) → Stands a k t → record { marks = ms; over = true } ≡ entered (begin a k ms)
-      is (act own l) s = sym (begin-row own l s ∙ rw e)
-
-  pub begin-arm : kd ≡ 255 → Begins t k ms (record { marks = ms; over = true })
-  begin-arm e = record { is = is }
-    where
-      is : (a : Act) → Stands a k t → record { marks = ms; over = true } ≡ entered (begin a k ms)
-      is (act own l) s = sym (begin-row own l s ∙ rw e)
+      is : (kd ≡ 0) ⊎ (kd ≡ 255) → (a : Act) → Stands a k t → record { marks = ms; over = true } ≡ entered (begin a k ms)
+      is (inl e) (act own l) s = sym (begin-row own l s ∙ rw e)
+      is (inr e) (act own l) s = sym (begin-row own l s ∙ rw e)
 
   module _ {e : ℕ} (z : End t k e) where
     row-end : (own : Own) (l : Acts) → Stands (act own l) k t → e ≡ k + 1 + sizes l
@@ -132,12 +115,12 @@ module _ (t : List ℕ) (k : ℕ) (ms : List ℕ) {kd : ℕ} (q : KindOf t k kd)
             (λ v m sb s. absurd (omega (arith, stands-end _ k t s z, size-pos m.body))) a s;
       }
 
-      pub begin-awaiting : (kd ≡ 0 → ⊥) → (kd ≡ 255 → ⊥) → (kd ≡ 8 → ⊥) → (kd ≡ 9 → ⊥) → b ≡ false
+      pub begin-awaiting : ((kd ≡ 0) ⊎ (kd ≡ 255) → ⊥) → (kd ≡ 8 → ⊥) → (kd ≡ 9 → ⊥) → b ≡ false
           → Begins t k ms (record { marks = set ms k 1; over = false })
-      begin-awaiting h0 h255 h8 h9 h = record { is = is }
+      begin-awaiting h0 h8 h9 h = record { is = is }
         where
           is : (a : Act) → Stands a k t → record { marks = set ms k 1; over = false } ≡ entered (begin a k ms)
-          is (act own l) s = sym (begin-row own l s ∙ rw (ne_eqb _ _ h0, ne_eqb _ _ h255, ne_eqb _ _ h8, ne_eqb _ _ h9, ← y, h))
+          is (act own l) s = sym (begin-row own l s ∙ rw (ne_eqb _ _ (λ e. h0 (inl e)), ne_eqb _ _ (λ e. h0 (inr e)), ne_eqb _ _ h8, ne_eqb _ _ h9, ← y, h))
 
 -- the loop of `begin_in_turn`: how those that are left begin is how all begin
 pub record Turning (t : List ℕ) (e c : ℕ) (ms : List ℕ) (j : ℕ) (m : List ℕ) : Type 0 where
@@ -223,19 +206,12 @@ module _ {t : List ℕ} {e c : ℕ} {ms : List ℕ} {j : ℕ} {m : List ℕ} {o 
         }));
   }
 
--- `no_order`, `started_order`
-pub no-order-is : ◌≡◌ {A = Order}
-    (record { root = 0; marks = replicate 256 0; values = replicate 16 0; bound = replicate 16 0; remembered = replicate 32 (closing_of 0 0); kept = 0; cause = 0 })
-    no_order
-unfolding no_order
-no-order-is = refl
-
-pub started-is : {t : List ℕ} {e : Order} → e ≡ no_order → {b : Entered} → Begins t 0 e.marks b → {p : Order} → p ≡ with_marks b.marks e
-    → StartsOrder t (with_root 1 p)
+-- `started_order`
+pub started-is : {t : List ℕ} {e : Order} → e ≡ no_order → {b : Entered} → Begins t 0 e.marks b → StartsOrder t (with_root 1 (with_marks b.marks e))
 unfolding started_order begun_order
-started-is {t} {e} i {b} x {p} y = record {
+started-is {t} {e} i {b} x = record {
   is = λ q n s.
       let w = plan-stands s in
       let d : b ≡ entered (begin q.body 0 no_order.marks) = rw i at (x.is q.body w.body) in
-      rw (y, d, i);
+      rw (d, i);
 }

@@ -1,12 +1,11 @@
 // How an activity begins, and an order.
 #![tactic(auto)]
 
-ghost use Rattle.std.specs.Prelude.{◌≤◌, ◌<◌, ◌&&◌, ◌≡◌};
+ghost use Rattle.std.specs.Prelude.{◌≤◌, ◌<◌, ◌≡◌};
 ghost use Rattle.order.specs.Answering.{throughout_of, around_of, Begins, BeginsInTurn, BeginsAll, StartsOrder};
 ghost use Rattle.order.specs.State.{no_order};
 
 use order::kind::is_scope;
-use order::marks::with_marks;
 use order::rows::{end_of, kind_of};
 use order::{Closing, Entered, Order, mark};
 use plan::kind;
@@ -17,14 +16,10 @@ fn throughout(k: usize, r: Entered) -> Entered
     requires { k < 256 }
     ensures { result ≡ throughout_of k r }
 {
-    let over = r.over;
-    if over {
-        let mut m = r.marks;
-        m[k] = mark::IDLE;
-        Entered {
-            marks: m,
-            over: true,
-        }
+    if r.over {
+        let mut marks = r.marks;
+        marks[k] = mark::IDLE;
+        Entered { marks, over: true }
     } else {
         r
     }
@@ -35,14 +30,10 @@ fn around(k: usize, r: Entered) -> Entered
     requires { k < 256 }
     ensures { result ≡ around_of k r }
 {
-    let over = r.over;
-    if over {
-        let mut m = r.marks;
-        m[k] = mark::DONE;
-        Entered {
-            marks: m,
-            over: false,
-        }
+    if r.over {
+        let mut marks = r.marks;
+        marks[k] = mark::DONE;
+        Entered { marks, over: false }
     } else {
         r
     }
@@ -53,42 +44,21 @@ fn around(k: usize, r: Entered) -> Entered
 pub fn begin(table: &Table, k: usize, marks: [u8; 256]) -> Entered
     ensures { Begins table.now k marks result }
 {
-    let mut m = marks;
     if 256 <= k {
-        return Entered {
-            marks: m,
-            over: true,
-        };
+        return Entered { marks, over: true };
     }
-    let kind = kind_of(table, k);
-    if kind == kind::EMPTY {
-        return Entered {
-            marks: m,
-            over: true,
-        };
-    }
-    if kind == kind::ARM {
-        return Entered {
-            marks: m,
-            over: true,
-        };
-    }
+    let mut m = marks;
     m[k] = mark::ACTIVE;
     let e = end_of(table, k);
-    if kind == kind::SEQUENCE {
-        return throughout(k, begin_in_turn(table, k + 1, e, m));
-    }
-    if kind == kind::FLOW {
-        return throughout(k, begin_all(table, k + 1, e, m));
-    }
-    if is_scope(kind) {
-        if k + 1 < e {
-            return around(k, begin(table, k + 1, m));
-        }
-    }
-    Entered {
-        marks: m,
-        over: false,
+    match kind_of(table, k) {
+        kind::EMPTY | kind::ARM => Entered { marks, over: true },
+        kind::SEQUENCE => throughout(k, begin_in_turn(table, k + 1, e, m)),
+        kind::FLOW => throughout(k, begin_all(table, k + 1, e, m)),
+        kind if is_scope(kind) && k + 1 < e => around(k, begin(table, k + 1, m)),
+        _ => Entered {
+            marks: m,
+            over: false,
+        },
     }
 }
 
@@ -104,28 +74,20 @@ pub fn begin_in_turn(table: &Table, c: usize, e: usize, marks: [u8; 256]) -> Ent
             over: true,
         };
     }
+    // Stays: (d) the next place is told by the row itself, so no range has these places.
     let mut j = c;
     while j < e {
         let r = begin(table, j, m);
-        m = r.marks;
-        let over = r.over;
-        if over {
-            j = end_of(table, j);
-        } else {
+        if !r.over {
             return r;
         }
+        m = r.marks;
+        j = end_of(table, j);
     }
     Entered {
         marks: m,
         over: true,
     }
-}
-
-// Whether both are over.
-fn both(a: bool, b: bool) -> bool
-    ensures { result ≡ (a && b) }
-{
-    if a { b } else { false }
 }
 
 // The activities from row c to row e begin, side by side.
@@ -136,28 +98,28 @@ fn begin_all(table: &Table, c: usize, e: usize, marks: [u8; 256]) -> Entered
 {
     let mut m = marks;
     let mut over = true;
+    // Stays: (d) as above.
     let mut i = c;
     while i < e {
-        let n = end_of(table, i);
         let r = begin(table, i, m);
         m = r.marks;
-        over = both(over, r.over);
-        i = n;
+        over = over && r.over;
+        i = end_of(table, i);
     }
     Entered { marks: m, over }
 }
 
 // No order.
+#[tactic(auto, unfolding(order::specs::State::no_order))]
 pub fn no_order() -> Order
     ensures { result ≡ no_order }
 {
-    let nothing = Closing { scope: 0, part: 0 };
     Order {
         root: mark::IDLE,
         marks: [mark::IDLE; 256],
-        values: [0u32; 16],
-        bound: [0u8; 16],
-        remembered: [nothing; 32],
+        values: [0; 16],
+        bound: [0; 16],
+        remembered: [Closing { scope: 0, part: 0 }; 32],
         kept: 0,
         cause: 0,
     }
@@ -168,10 +130,10 @@ pub fn started_order(table: &Table) -> Order
     ensures { StartsOrder table.now result }
 {
     let o = no_order();
-    let m = o.marks;
-    let r = begin(table, 0, m);
-    let n = r.marks;
-    let mut p = with_marks(n, o);
-    p.root = mark::ACTIVE;
-    p
+    let marks = begin(table, 0, o.marks).marks;
+    Order {
+        root: mark::ACTIVE,
+        marks,
+        ..o
+    }
 }

@@ -13,6 +13,7 @@ use machine::Message;
 use offer::Offered;
 use plan::table::LENGTH;
 use plan::{Accepted, Answer, Refusal};
+use show::Shown;
 
 fn pair_of(number: u32, place: usize) -> u64
     ensures { result ≡ pair_of number place }
@@ -48,13 +49,14 @@ pub fn moonhalyard_accept(s: &[u8]) -> u64
 }
 
 // The refusal's number times 2^48, where activity k starts times 2^24, and how many bytes spell it; both 0 where it is refused.
+#[tactic(auto, unfolding(crate::specs::Packed::show_number))]
 pub fn moonhalyard_show(s: &[u8], k: u32) -> u64
     ensures { result ≡ show_number (read_plan s.now) s.now k }
 {
-    let mut start: usize = 0;
-    let mut refusal = 0u32;
-    let length = show::show(s, k as usize, &mut start, &mut refusal).len();
-    triple_of(refusal, start, length)
+    match show::show(s, k as usize) {
+        Ok(Shown { part, start }) => triple_of(0, start, part.len()),
+        Err(refusal) => triple_of(refusal, 0, 0),
+    }
 }
 
 // How much is offered, as one number.

@@ -7,16 +7,17 @@ ghost use Rattle.boundary_mend.specs.Packed.{answer_number};
 ghost use Rattle.mend.specs.Outcome.{answer_of, buffer_of};
 ghost use Rattle.mend.specs.Padded.{read_padded};
 
-use mend::Answer;
+use mend::{Answer, Mended, Refusal};
 
+#[tactic(auto, unfolding(crate::specs::Packed::answer_number))]
 fn number_of(a: Answer) -> u64
     ensures { result ≡ answer_number a }
 {
     match a {
-        Answer::Refused { number, place } => {
-            (number as u64) * 4294967296 + (place as u64) % 4294967296
+        Err(Refusal { number, place }) => {
+            u64::from(number) * 4294967296 + (place as u64) % 4294967296
         }
-        Answer::Mended { length, cut } => (cut as u64) % 65536 * 65536 + (length as u64) % 65536,
+        Ok(Mended { length, cut }) => (cut as u64) % 65536 * 65536 + (length as u64) % 65536,
     }
 }
 
@@ -25,6 +26,5 @@ pub fn moonhalyard_mend(s: &[u8], out: &mut [u8]) -> u64
     ensures is { result ≡ answer_number (answer_of s.now (read_padded s.now) (length out.old)) }
     ensures bytes { out.new ≡ buffer_of (read_padded s.now) out.old }
 {
-    let a = mend::mend(s, out);
-    number_of(a)
+    number_of(mend::mend(s, out))
 }

@@ -6,45 +6,31 @@ use plan::table::{LENGTH, Table};
 use sheet::Sheet;
 use writer::Answer;
 
-fn wide(x: u32) -> u64 {
-    x as u64
-}
-
 // A number and a line.
 fn pair_of(number: u64, line: u64) -> u64 {
     number % 65536 * 4294967296 + line % 4294967296
 }
 
 fn line_of(lines: &[u32; 4355], row: usize) -> u64 {
-    if row < 4355 {
-        return wide(lines[row]);
-    }
-    0
+    if row < 4355 { u64::from(lines[row]) } else { 0 }
 }
 
 // The plan of the first `length` numbers.
 fn answer_of(rows: &[u32], length: usize, plan: &mut [u8]) -> Answer {
     if length <= rows.len() {
-        return writer::write(&rows[0..length], plan);
-    }
-    Answer::Refused {
-        number: 2,
-        place: 0,
+        writer::write(&rows[..length], plan)
+    } else {
+        Err(plan::Refusal {
+            number: 2,
+            place: 0,
+        })
     }
 }
 
 fn written(rows: &[u32; 87100], length: usize, lines: &[u32; 4355], plan: &mut [u8]) -> u64 {
-    let a = answer_of(rows, length, plan);
-    number_of(a, lines)
-}
-
-fn number_of(a: Answer, lines: &[u32; 4355]) -> u64 {
-    match a {
-        Answer::Wrote { length } => (length as u64) % 4294967296,
-        Answer::Refused { number, place } => {
-            let line = line_of(lines, place);
-            pair_of(wide(number), line)
-        }
+    match answer_of(rows, length, plan) {
+        Ok(length) => (length as u64) % 4294967296,
+        Err(plan::Refusal { number, place }) => pair_of(u64::from(number), line_of(lines, place)),
     }
 }
 
@@ -53,30 +39,18 @@ fn number_of(a: Answer, lines: &[u32; 4355]) -> u64 {
 pub fn moonhalyard_text(text: &[u8], plan: &mut [u8]) -> u64 {
     let mut rows = [0u32; 87100];
     let mut lines = [0u32; 4355];
-    let r = sheet::read(text, &mut rows, &mut lines);
-    match r {
+    match sheet::read(text, &mut rows, &mut lines) {
         Sheet::Rows { length } => written(&rows, length, &lines, plan),
-        Sheet::Wrong {
-            line,
-            reason,
-            place: _,
-        } => pair_of((reason as u64) % 4096 + 32, line as u64),
+        Sheet::Wrong { line, reason, .. } => pair_of((reason as u64) % 4096 + 32, line as u64),
     }
 }
 
 // The first `length` bytes of a text, into the front of `text`; where there is no room for them, 18 and how many they are, and nothing is written.
 fn handed(said: &[u8; 65536], length: usize, text: &mut [u8]) -> u64 {
-    if text.len() < length {
+    if text.len() < length || said.len() < length {
         return pair_of(18, length as u64);
     }
-    if 65536 < length {
-        return pair_of(18, length as u64);
-    }
-    let mut i = 0;
-    while i < length {
-        text[i] = said[i];
-        i += 1;
-    }
+    text[..length].copy_from_slice(&said[..length]);
     (length as u64) % 4294967296
 }
 
@@ -96,15 +70,14 @@ fn drawn(
 pub fn moonhalyard_draw(s: &[u8], text: &mut [u8]) -> u64 {
     let mut table = [0u32; LENGTH];
     let mut correlation = [0u8; 16];
-    let a = plan::accept_over(s, &mut table, &mut correlation);
-    match a {
-        Err(plan::Refusal { number, place }) => pair_of(wide(number), place as u64),
-        Ok(
-            plan::Accepted {
-                variables,
-                activities,
-                ..
-            },
-        ) => drawn(&table, &correlation, variables, activities, text),
+    match plan::accept_over(s, &mut table, &mut correlation) {
+        Err(plan::Refusal { number, place }) => pair_of(u64::from(number), place as u64),
+        Ok(accepted) => drawn(
+            &table,
+            &correlation,
+            accepted.variables,
+            accepted.activities,
+            text,
+        ),
     }
 }

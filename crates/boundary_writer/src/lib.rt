@@ -10,14 +10,14 @@ ghost use Rattle.writer.specs.Written.{answer_for, bytes_for, rows_answer, rows_
 
 use writer::Answer;
 
+// An answer as one number.
+#[tactic(auto, unfolding(crate::specs::Packed::answer_number))]
 fn number_of(a: Answer) -> u64
     ensures { result ≡ answer_number a }
 {
     match a {
-        Answer::Refused { number, place } => {
-            (number as u64) * 4294967296 + (place as u64) % 4294967296
-        }
-        Answer::Wrote { length } => (length as u64) % 4294967296,
+        Err(why) => u64::from(why.number) * 4294967296 + (why.place as u64) % 4294967296,
+        Ok(length) => (length as u64) % 4294967296,
     }
 }
 
@@ -26,8 +26,7 @@ pub fn moonhalyard_write(table: &[u32], out: &mut [u8]) -> u64
     ensures is { result ≡ answer_number (answer_for (read_rows table.now) (length out.old)) }
     ensures bytes { out.new ≡ bytes_for (read_rows table.now) out.old }
 {
-    let a = writer::write(table, out);
-    number_of(a)
+    number_of(writer::write(table, out))
 }
 
 // Gives the table of the plan s into `out`: the refusal's number times 2^32 and its place, or how many numbers were given.
@@ -35,6 +34,5 @@ pub fn moonhalyard_rows(s: &[u8], out: &mut [u32]) -> u64
     ensures is { result ≡ answer_number (rows_answer (read_plan s.now) (length out.old)) }
     ensures table { out.new ≡ rows_for (read_plan s.now) out.old }
 {
-    let a = rows::rows(s, out);
-    number_of(a)
+    number_of(rows::rows(s, out))
 }

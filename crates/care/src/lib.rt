@@ -5,82 +5,83 @@ mod ordinary;
 mod paging;
 mod retaining;
 
-use drawing::{Out, put_error, runtime_of};
 use ordinary::Kind;
 pub use paging::page;
-use papers::{Desk, failed};
+use papers::Desk;
 
 // What is not done, and why.
-fn not_done(desk: Desk, number: u64, why: &[u8], out: &mut Out) -> Desk {
-    let used = put_error(out, desk.used, number, why);
-    failed(desk, used)
+fn not_done(desk: &mut Desk, number: u64, why: &[u8]) {
+    desk.out.put_error(number, why);
+    desk.fail();
 }
 
 // Whether the file is the one that this desk saved or opened last, and holds something else now: another desk saved it since.
-fn is_anothers(desk: Desk, file: &[u8], runtime: HostRuntime) -> bool {
-    if desk.bold {
-        return false;
+fn is_anothers(desk: &Desk, file: &[u8]) -> bool {
+    match desk.filed {
+        Some(filed) if !desk.bold && filed.name == papers::sum_of(file) => {
+            ordinary::sum_at(desk.out.runtime(), file) != filed.held
+        }
+        _ => false,
     }
-    if !desk.filed {
-        return false;
-    }
-    if desk.file != papers::sum_of(file) {
-        return false;
-    }
-    ordinary::sum_at(runtime, file) != desk.seen
 }
 
 // A save over an ordinary file.
-fn replacing(desk: Desk, file: &[u8], number: u64, names: &[u8; 16896], out: &mut Out) -> Desk {
-    if is_anothers(desk, file, runtime_of(out)) {
-        return not_done(
+fn replacing(desk: &mut Desk, file: &[u8], number: u64) {
+    if is_anothers(desk, file) {
+        not_done(
             desk,
             number,
             b"cannot save: another desk has saved it since: say save! to replace it",
-            out,
         );
+    } else {
+        replaced(desk, file, number);
     }
-    replaced(desk, file, number, names, out)
 }
 
 // A save over an ordinary file, which stays as FILE.old.
-fn replaced(desk: Desk, file: &[u8], number: u64, names: &[u8; 16896], out: &mut Out) -> Desk {
-    let e = retaining::retained(runtime_of(out), file);
-    if e != 0 {
-        let used = papers::put_failed(out, desk.used, number, b"keep what it holds as FILE.old", e);
-        return failed(desk, used);
+fn replaced(desk: &mut Desk, file: &[u8], number: u64) {
+    if let Err(reason) = retaining::retained(desk.out.runtime(), file) {
+        papers::put_failed(
+            &mut desk.out,
+            number,
+            b"keep what it holds as FILE.old",
+            reason,
+        );
+        desk.fail();
+    } else {
+        papers::save(desk, file, number);
     }
-    papers::save(desk, file, number, names, out)
 }
 
 // A save over a file that holds a plan: a desk without one is likely to have forgotten to open it.
-fn over_plan(desk: Desk, file: &[u8], number: u64, names: &[u8; 16896], out: &mut Out) -> Desk {
+fn over_plan(desk: &mut Desk, file: &[u8], number: u64) {
     let state = desk.state;
     if state.length == 0 {
         if !desk.bold {
-            return not_done(
+            not_done(
                 desk,
                 number,
                 b"cannot save: the file has a plan, and the desk has none: say save! to replace it",
-                out,
             );
+            return;
         }
     }
-    replacing(desk, file, number, names, out)
+    replacing(desk, file, number);
 }
 
 // Saves the state.
-pub fn save(desk: Desk, file: &[u8], number: u64, names: &[u8; 16896], out: &mut Out) -> Desk {
+pub fn save(desk: &mut Desk, file: &[u8], number: u64) {
     if !desk.spoken {
-        return papers::save(desk, file, number, names, out);
-    }
-    let k = ordinary::kind_of(runtime_of(out), file);
-    match k {
-        Kind::Nothing => papers::save(desk, file, number, names, out),
-        Kind::Ordinary => replacing(desk, file, number, names, out),
-        Kind::Plan => over_plan(desk, file, number, names, out),
-        Kind::Folder => not_done(desk, number, b"cannot save: it is a folder", out),
-        Kind::Link => not_done(desk, number, b"cannot save: it is a link", out),
-        Kind::Other => not_done(desk, number, b"cannot save: it is no ordinary file", out),
+        papers::save(desk, file, number);
+    } else {
+        let k = ordinary::kind_of(desk.out.runtime(), file);
+        match k {
+            Kind::Nothing => papers::save(desk, file, number),
+            Kind::Ordinary => replacing(desk, file, number),
+            Kind::Plan => over_plan(desk, file, number),
+            Kind::Folder => not_done(desk, number, b"cannot save: it is a folder"),
+            Kind::Link => not_done(desk, number, b"cannot save: it is a link"),
+            Kind::Other => not_done(desk, number, b"cannot save: it is no ordinary file"),
+        }
     }
 }

@@ -7,9 +7,7 @@ use super::rivals::{is_contested, rival_of};
 use super::sending::{is_never_taken, never_leaves};
 use super::swallowing::swallows;
 use super::undoing::{forgets, loses};
-use drawing::{
-    Out, number_at, put, put_activity, put_byte, put_fault_name, put_next, put_pair, put_variable,
-};
+use drawing::{Out, number_at, put_activity, put_fault_name, put_variable};
 use plan::table::Table;
 
 // What is warned of has a number: 0 to 6 and 15, for each of eight fault parts by number 7 more, and for each of 16 variables 16 and 32 more.
@@ -47,165 +45,116 @@ fn is_earned(table: &Table, correlation: &[u8; 16], n: usize, what: u32) -> bool
     }
 }
 
-fn put_variable_words(out: &mut Out, used: usize, names: &[u8; 16896], what: u32) -> usize {
+fn put_variable_words(out: &mut Out, names: &[u8; 16896], what: u32) {
     if what < 16 {
-        return used;
+        return;
     }
     if what < 32 {
-        let at = put_variable(out, used, names, what - 16);
-        return put(
-            out,
-            at,
-            b" is unbound here: nothing before it binds it, so this faults",
+        put_variable(out, names, what - 16);
+        out.put(b" is unbound here: nothing before it binds it, so this faults");
+    } else {
+        put_variable(out, names, what - 32);
+        out.put(
+            b" may be set again after the scope: the undo part goes by the value of then, not that of the closing",
         );
     }
-    let at = put_variable(out, used, names, what - 32);
-    put(
-        out,
-        at,
-        b" may be set again after the scope: the undo part goes by the value of then, not that of the closing",
-    )
 }
 
 // Row n may be open together with row j.
-fn put_rival(out: &mut Out, used: usize, j: usize) -> usize {
-    let mut at = put(out, used, b"it may be open together with activity");
-    at = put_next(out, at, j as u64);
-    put(
-        out,
-        at,
-        b", for the same partner, operation and variables: then this one raises a fault",
-    )
+fn put_rival(out: &mut Out, j: usize) {
+    out.put(b"it may be open together with activity");
+    out.put_next(j as u64);
+    out.put(b", for the same partner, operation and variables: then this one raises a fault");
 }
 
 // The fault part for this number never runs.
-fn put_never_runs(out: &mut Out, used: usize, names: &[u8; 16896], number: u32) -> usize {
-    let mut at = put(out, used, b"its fault part ");
-    at = put_fault_name(out, at, names, b"", number);
-    put(
-        out,
-        at,
-        b" never runs: no raise in its body has that number",
-    )
+fn put_never_runs(out: &mut Out, names: &[u8; 16896], number: u32) {
+    out.put(b"its fault part ");
+    put_fault_name(out, names, b"", number);
+    out.put(b" never runs: no raise in its body has that number");
 }
 
-fn put_words(
-    out: &mut Out,
-    used: usize,
-    names: &[u8; 16896],
-    table: &Table,
-    n: usize,
-    what: u32,
-) -> usize {
+fn put_words(out: &mut Out, names: &[u8; 16896], table: &Table, n: usize, what: u32) {
     match what {
-        0 => put(
-            out,
-            used,
-            b"it never leaves: the plan receives on this partner, and takes it itself",
-        ),
-        1 => put(
-            out,
-            used,
+        0 => out.put(b"it never leaves: the plan receives on this partner, and takes it itself"),
+        1 => out.put(
             b"it never leaves: the plan receives on this partner, and no receive of the plan takes it",
         ),
-        2 => put(
-            out,
-            used,
+        2 => out.put(
             b"its undo part is empty: once it closes, the scopes within it are forgotten and not undone; with the undo part left out it hands them on",
         ),
-        3 => put(
-            out,
-            used,
+        3 => out.put(
             b"its fault part is empty: a fault in its body is swallowed, and the order goes on behind it",
         ),
-        4 => put(
-            out,
-            used,
-            b"it never runs: what stands before it lets nothing follow",
-        ),
-        5 => put(
-            out,
-            used,
-            b"it never runs: what it stands in goes by a constant",
-        ),
-        6 => put_rival(out, used, rival_of(table, n)),
-        7..=14 => put_never_runs(out, used, names, number_at(table, n, part_of(what))),
-        15 => put(
-            out,
-            used,
+        4 => out.put(b"it never runs: what stands before it lets nothing follow"),
+        5 => out.put(b"it never runs: what it stands in goes by a constant"),
+        6 => put_rival(out, rival_of(table, n)),
+        7..=14 => put_never_runs(out, names, number_at(table, n, part_of(what))),
+        15 => out.put(
             b"no partner has the number that this variable is set to, so this faults: partners are 0 to 63",
         ),
-        _ => put_variable_words(out, used, names, what),
+        _ => put_variable_words(out, names, what),
     }
 }
 
 fn put_warning(
     out: &mut Out,
-    used: usize,
     names: &[u8; 16896],
     table: &Table,
     correlation: &[u8; 16],
     n: usize,
     what: u32,
-) -> usize {
-    let mut at = put(out, used, b"warning");
-    at = put_next(out, at, n as u64);
-    at = put(out, at, b" - ");
-    at = put_activity(out, at, names, table, correlation, n);
-    at = put(out, at, b" - ");
-    at = put_words(out, at, names, table, n, what);
-    put_byte(out, at, 10)
+) {
+    out.put(b"warning");
+    out.put_next(n as u64);
+    out.put(b" - ");
+    put_activity(out, names, table, correlation, n);
+    out.put(b" - ");
+    put_words(out, names, table, n, what);
+    out.put_byte(b'\n');
 }
 
 fn put_earned(
     out: &mut Out,
-    used: usize,
     names: &[u8; 16896],
     table: &Table,
     correlation: &[u8; 16],
     n: usize,
     what: u32,
-) -> usize {
+) {
     if is_earned(table, correlation, n, what) {
-        return put_warning(out, used, names, table, correlation, n, what);
+        put_warning(out, names, table, correlation, n, what);
     }
-    used
 }
 
 // What is warned of at activity n.
 fn put_warnings_at(
     out: &mut Out,
-    used: usize,
     names: &[u8; 16896],
     table: &Table,
     correlation: &[u8; 16],
     n: usize,
-) -> usize {
-    let mut at = used;
+) {
     let mut what = 0;
     while what < 48 {
-        at = put_earned(out, at, names, table, correlation, n, what);
+        put_earned(out, names, table, correlation, n, what);
         what += 1;
     }
-    at
 }
 
 // A line for each warning, in the order of the activities; nothing where there is none.
 pub fn put_warnings(
     out: &mut Out,
-    used: usize,
     names: &[u8; 16896],
     table: &Table,
     correlation: &[u8; 16],
     activities: usize,
-) -> usize {
-    let mut at = used;
+) {
     let mut n = 0;
     while n < activities {
-        at = put_warnings_at(out, at, names, table, correlation, n);
+        put_warnings_at(out, names, table, correlation, n);
         n += 1;
     }
-    at
 }
 
 fn with_one(count: u64, wanted: bool) -> u64 {
@@ -241,19 +190,12 @@ fn count_of(table: &Table, correlation: &[u8; 16], activities: usize) -> u64 {
 // The answer to a check: how many warnings there are, each of them, and a blank line.
 pub fn put_check(
     out: &mut Out,
-    used: usize,
     names: &[u8; 16896],
     table: &Table,
     correlation: &[u8; 16],
     activities: usize,
-) -> usize {
-    let mut at = put_pair(
-        out,
-        used,
-        b"check",
-        0,
-        count_of(table, correlation, activities),
-    );
-    at = put_warnings(out, at, names, table, correlation, activities);
-    put_byte(out, at, 10)
+) {
+    out.put_pair(b"check", 0, count_of(table, correlation, activities));
+    put_warnings(out, names, table, correlation, activities);
+    out.put_byte(b'\n');
 }

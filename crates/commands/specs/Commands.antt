@@ -1,7 +1,7 @@
 -- Meaning: the commands of the desk, by the words of a line. Assumes nothing: these are definitions.
-use Rattle.std.specs.Prelude.{ℕ, ◌≤◌, cond, List, [], ◌∷◌, length, get_or, eqb, ltb, leb}
+use Rattle.std.specs.Prelude.{ℕ, ◌≤◌, cond, List, [], ◌∷◌, length, get_or, eqb, ltb, leb, Result, Ok, Err}
 use Rattle.text.specs.declared.Word.{Word}
-use Rattle.text.specs.declared.Decimal.{Decimal}
+use Rattle.text.specs.declared.DecimalError.{DecimalError}
 use Rattle.commands.specs.declared.Alone.{Alone}
 use Rattle.commands.specs.declared.Worded.{Worded}
 use Rattle.commands.specs.declared.Numbered.{Numbered}
@@ -115,42 +115,49 @@ verb_of w =
     cond (eqb (length w) 0) Verb.Nothing
     (cond (eqb (get_or w 0 0) 35) Verb.Nothing (alone_of w (worded_of w (numbered_of w (listed_of w Verb.Unknown)))))
 
--- a command by its number
-abbrev pub number_by : Numbered → Decimal → Command
-number_by what (Decimal.Value value) = Command.Numbered what value
-number_by what Decimal.Large = Command.Wrong Trouble.Large
-number_by what Decimal.Bad = Command.Wrong Trouble.Unnumbered
+-- what is wrong with a line where a word is no number
+abbrev pub trouble_of : DecimalError → Trouble
+trouble_of DecimalError.Large = Trouble.Large
+trouble_of DecimalError.Bad = Trouble.Unnumbered
 
-unfoldable pub number_of : Numbered → List ℕ → Command
+-- a command by its number
+abbrev pub number_by : Numbered → Result ℕ DecimalError → Result Command Trouble
+number_by what (Ok value) = Ok (Command.Numbered what value)
+number_by what (Err e) = Err (trouble_of e)
+
+unfoldable pub number_of : Numbered → List ℕ → Result Command Trouble
 number_of what w = number_by what (decimal_of w)
 
--- a command that takes one word more than its own, where v and w are the words after that
-abbrev pub with_one : (v w : Word) → Command → Command
-with_one v w c =
-    cond (leb v.to v.from) (Command.Wrong Trouble.Missing)
-    (cond (ltb w.from w.to) (Command.Wrong Trouble.Extra) c)
+-- of the words v and w after a command that takes one word more than its own, that word
+unfoldable pub one_of : (v w : Word) → Result Word Trouble
+one_of v w = cond (leb v.to v.from) (Err Trouble.Missing) (cond (ltb w.from w.to) (Err Trouble.Extra) (Ok v))
+
+-- a command that takes one word more than its own, by that word
+abbrev pub with_one : Result Word Trouble → (Word → Result Command Trouble) → Result Command Trouble
+with_one (Ok v) f = f v
+with_one (Err why) f = Err why
 
 -- a command by its verb and the words after it: u is the command word
-abbrev pub by_verb : List ℕ → Verb → (u v w : Word) → Command
-by_verb s Verb.Nothing u v w = Command.Nothing
-by_verb s Verb.Unknown u v w = Command.Wrong Trouble.Unknown
-by_verb s (Verb.Alone what) u v w = cond (ltb v.from v.to) (Command.Wrong Trouble.Extra) (Command.Alone what)
-by_verb s (Verb.Worded what) u v w = with_one v w (Command.Worded what v.from v.to)
-by_verb s (Verb.Numbered what) u v w = with_one v w (number_of what (text_of s v.from v.to))
-by_verb s (Verb.Listed what) u v w = Command.Listed what u.to
+abbrev pub by_verb : List ℕ → Verb → (u v w : Word) → Result Command Trouble
+by_verb s Verb.Nothing u v w = Ok Command.Nothing
+by_verb s Verb.Unknown u v w = Err Trouble.Unknown
+by_verb s (Verb.Alone what) u v w = cond (ltb v.from v.to) (Err Trouble.Extra) (Ok (Command.Alone what))
+by_verb s (Verb.Worded what) u v w = with_one (one_of v w) (λ x. Ok (Command.Worded what x.from x.to))
+by_verb s (Verb.Numbered what) u v w = with_one (one_of v w) (λ x. number_of what (text_of s x.from x.to))
+by_verb s (Verb.Listed what) u v w = Ok (Command.Listed what u.to)
 
 abbrev pub second : List ℕ → Word
 second s = word_at s (word_at s 0).to
 
-unfoldable pub command_of : List ℕ → Command
+unfoldable pub command_of : List ℕ → Result Command Trouble
 command_of s =
     by_verb s (verb_of (text_of s (word_at s 0).from (word_at s 0).to)) (word_at s 0) (second s) (word_at s (second s).to)
 
 -- the word that a command takes lies within its line
-abbrev pub Inside : List ℕ → Command → Type 0
-Inside s (Command.Worded what from to) = (from ≤ to) × (to ≤ length s)
-Inside s Command.Nothing = Unit
-Inside s (Command.Wrong why) = Unit
-Inside s (Command.Alone what) = Unit
-Inside s (Command.Numbered what k) = Unit
-Inside s (Command.Listed what from) = Unit
+abbrev pub Inside : List ℕ → Result Command Trouble → Type 0
+Inside s (Ok (Command.Worded what from to)) = (from ≤ to) × (to ≤ length s)
+Inside s (Ok Command.Nothing) = Unit
+Inside s (Err why) = Unit
+Inside s (Ok (Command.Alone what)) = Unit
+Inside s (Ok (Command.Numbered what k)) = Unit
+Inside s (Ok (Command.Listed what from)) = Unit

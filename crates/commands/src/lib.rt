@@ -3,14 +3,14 @@
 
 mod verbs;
 
-ghost use Rattle.std.specs.Prelude.{◌≡◌};
-ghost use Rattle.commands.specs.Commands.{number_of, command_of, Inside};
+ghost use Rattle.std.specs.Prelude.{◌≡◌, IfOk};
+ghost use Rattle.commands.specs.Commands.{trouble_of, one_of, number_of, command_of, Inside};
 
-use text::{Decimal, decimal_of, word_at};
+use text::{DecimalError, Word, decimal_of, word_at};
 use verbs::verb_of;
 
 // The command words that stand alone.
-#[derive(Clone, Copy)]
+#[derive(Clone, Copy, PartialEq, Eq, Debug, Drop)]
 pub enum Alone {
     Draw,
     Offer,
@@ -25,7 +25,7 @@ pub enum Alone {
 }
 
 // Those that take one word: bytes in hexadecimal, or the name of a file.
-#[derive(Clone, Copy)]
+#[derive(Clone, Copy, PartialEq, Eq, Debug, Drop)]
 pub enum Worded {
     Plan,
     Save,
@@ -34,7 +34,7 @@ pub enum Worded {
 }
 
 // Those that take one number.
-#[derive(Clone, Copy)]
+#[derive(Clone, Copy, PartialEq, Eq, Debug, Drop)]
 pub enum Numbered {
     Show,
     Step,
@@ -42,14 +42,14 @@ pub enum Numbered {
 }
 
 // Those that take numbers, as many as there are.
-#[derive(Clone, Copy)]
+#[derive(Clone, Copy, PartialEq, Eq, Debug, Drop)]
 pub enum Listed {
     Post,
     Run,
 }
 
 // What the first word of a line asks for: nothing where there is none, or where it begins a comment.
-#[derive(Clone, Copy)]
+#[derive(Clone, Copy, PartialEq, Eq, Debug, Drop)]
 pub enum Verb {
     Nothing,
     Unknown,
@@ -60,7 +60,7 @@ pub enum Verb {
 }
 
 // What is wrong with a line.
-#[derive(Clone, Copy)]
+#[derive(Clone, Copy, PartialEq, Eq, Debug, Drop)]
 pub enum Trouble {
     Unknown,
     // it lacks a word, or has one too many
@@ -71,14 +71,23 @@ pub enum Trouble {
     Large,
 }
 
-// A line of the desk: a command with what it takes, or what is wrong with it. The numbers of a list are still to be read, from `from` on.
-#[derive(Clone, Copy)]
+impl From<DecimalError> for Trouble {
+    ghost from_gives = { λ e t. t ≡ trouble_of e };
+
+    fn from(e: DecimalError) -> Trouble {
+        match e {
+            DecimalError::Large => Trouble::Large,
+            DecimalError::Bad => Trouble::Unnumbered,
+        }
+    }
+}
+
+// A command of the desk with what it takes. The numbers of a list are still to be read, from `from` on.
+// Stays: (a) the places of a word and not its text, since `command_of` of specs/Commands.antt and its clause `inside` name them.
+#[derive(Clone, Copy, PartialEq, Eq, Debug, Drop)]
 pub enum Command {
     // a comment, or a blank line
     Nothing,
-    Wrong {
-        why: Trouble,
-    },
     Alone {
         what: Alone,
     },
@@ -97,80 +106,55 @@ pub enum Command {
     },
 }
 
-// A command with the word that is to be its number.
-fn number_of(what: Numbered, w: &[u8]) -> Command
-    ensures { result ≡ number_of what w.now }
+// The one word that a command takes beside its own: there is one, and no other after it.
+#[tactic(auto, unfolding(crate::specs::Commands::one_of))]
+fn one_of(second: Word, third: Word) -> Result<Word, Trouble>
+    ensures is { result ≡ one_of second third }
+    ensures second { IfOk result (λ w. w ≡ second) }
 {
-    let d = decimal_of(w);
-    match d {
-        Decimal::Value { value } => Command::Numbered { what, k: value },
-        Decimal::Large => Command::Wrong {
-            why: Trouble::Large,
-        },
-        Decimal::Bad => Command::Wrong {
-            why: Trouble::Unnumbered,
-        },
+    if second.is_empty() {
+        Err(Trouble::Missing)
+    } else if third.is_empty() {
+        Ok(second)
+    } else {
+        Err(Trouble::Extra)
     }
 }
 
+// A command with the word that is to be its number.
+#[tactic(auto, unfolding(crate::specs::Commands::number_of))]
+fn number_of(what: Numbered, w: &[u8]) -> Result<Command, Trouble>
+    ensures { result ≡ number_of what w.now }
+{
+    let k = decimal_of(w)?;
+    Ok(Command::Numbered { what, k })
+}
+
 // The command that a line holds, whose end is taken off.
-pub fn command_of(s: &[u8]) -> Command
+#[tactic(auto, unfolding(crate::specs::Commands::command_of))]
+pub fn command_of(s: &[u8]) -> Result<Command, Trouble>
     ensures is { result ≡ command_of s.now }
     ensures inside { Inside s.now result }
 {
     let first = word_at(s, 0);
-    let from = first.from;
-    let to = first.to;
-    let verb = verb_of(&s[from..to]);
-    let second = word_at(s, to);
-    let begin = second.from;
-    let end = second.to;
-    let third = word_at(s, end);
-    let rest = third.from;
-    let stop = third.to;
-    match verb {
-        Verb::Nothing => Command::Nothing,
-        Verb::Unknown => Command::Wrong {
-            why: Trouble::Unknown,
-        },
-        Verb::Alone { what } => {
-            if begin < end {
-                return Command::Wrong {
-                    why: Trouble::Extra,
-                };
-            }
-            Command::Alone { what }
-        }
+    let second = word_at(s, first.to);
+    let third = word_at(s, second.to);
+    match verb_of(&s[first.from..first.to]) {
+        Verb::Nothing => Ok(Command::Nothing),
+        Verb::Unknown => Err(Trouble::Unknown),
+        Verb::Alone { what } if second.is_empty() => Ok(Command::Alone { what }),
+        Verb::Alone { .. } => Err(Trouble::Extra),
         Verb::Worded { what } => {
-            if end <= begin {
-                return Command::Wrong {
-                    why: Trouble::Missing,
-                };
-            }
-            if rest < stop {
-                return Command::Wrong {
-                    why: Trouble::Extra,
-                };
-            }
-            Command::Worded {
-                what,
-                from: begin,
-                to: end,
-            }
+            let Word { from, to } = one_of(second, third)?;
+            Ok(Command::Worded { what, from, to })
         }
         Verb::Numbered { what } => {
-            if end <= begin {
-                return Command::Wrong {
-                    why: Trouble::Missing,
-                };
-            }
-            if rest < stop {
-                return Command::Wrong {
-                    why: Trouble::Extra,
-                };
-            }
-            number_of(what, &s[begin..end])
+            let Word { from, to } = one_of(second, third)?;
+            number_of(what, &s[from..to])
         }
-        Verb::Listed { what } => Command::Listed { what, from: to },
+        Verb::Listed { what } => Ok(Command::Listed {
+            what,
+            from: first.to,
+        }),
     }
 }

@@ -1,20 +1,20 @@
 // What is wrong with a line.
 use commands::Trouble;
-use drawing::{Out, put_error};
-use papers::{Desk, failed};
+use drawing::Out;
+use papers::Desk;
 
-fn put_trouble(out: &mut Out, used: usize, number: u64, why: Trouble) -> usize {
+fn put_trouble(out: &mut Out, number: u64, why: Trouble) {
     match why {
-        Trouble::Unknown => put_error(out, used, number, b"no such command"),
-        Trouble::Missing => put_error(out, used, number, b"a word is missing"),
-        Trouble::Extra => put_error(out, used, number, b"too many words"),
-        Trouble::Unnumbered => put_error(out, used, number, b"not a number"),
-        Trouble::Large => put_error(out, used, number, b"the number is too large"),
+        Trouble::Unknown => out.put_error(number, b"no such command"),
+        Trouble::Missing => out.put_error(number, b"a word is missing"),
+        Trouble::Extra => out.put_error(number, b"too many words"),
+        Trouble::Unnumbered => out.put_error(number, b"not a number"),
+        Trouble::Large => out.put_error(number, b"the number is too large"),
     }
 }
 
 // The line with this number is wrong.
-pub fn wrong(desk: Desk, number: u64, why: Trouble, out: &mut Out) -> Desk {
-    let used = put_trouble(out, desk.used, number, why);
-    failed(desk, used)
+pub fn wrong(desk: &mut Desk, number: u64, why: Trouble) {
+    put_trouble(&mut desk.out, number, why);
+    desk.fail();
 }

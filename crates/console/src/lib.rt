@@ -7,133 +7,90 @@ mod taking;
 
 pub use answering::wrong;
 use commands::{Alone, Command, Listed, Numbered, Worded};
-use drawing::{Out, put_error};
 pub use lists::{Numbers, before, numbers_of, reply_in, rest_of};
 use machine::{State, Tally};
-use papers::{Desk, failed, shown};
+use papers::Desk;
 pub use taking::{message_of, put_collected, put_step, put_tally};
 
 // A command that stands alone. (The lines after a write are its caller's to gather: here it has none.)
-fn answer_alone(
-    desk: Desk,
-    what: Alone,
-    number: u64,
-    bytes: &mut [u8; 8000],
-    names: &mut [u8; 16896],
-    out: &mut Out,
-) -> Desk {
+fn answer_alone(desk: &mut Desk, what: Alone, number: u64) {
     match what {
-        Alone::Draw => papers::draw(desk, bytes, names, out),
-        Alone::Names => papers::names(desk, bytes, names, out),
-        Alone::Check => papers::check(desk, bytes, names, out),
-        Alone::Write => papers::write(desk, b"", number, bytes, names, out),
-        Alone::Collect => taking::collect(desk, out),
+        Alone::Draw => papers::draw(desk),
+        Alone::Names => papers::names(desk),
+        Alone::Check => papers::check(desk),
+        Alone::Write => papers::write(desk, b"", number),
+        Alone::Collect => taking::collect(desk),
         Alone::Offer | Alone::Waiting | Alone::Tally | Alone::Orders | Alone::Offers => {
-            let used = put_alone(desk, what, names, out);
-            shown(desk, used)
+            put_alone(desk, what);
         }
     }
 }
 
 // One that changes nothing.
-fn put_alone(desk: Desk, what: Alone, names: &[u8; 16896], out: &mut Out) -> usize {
+fn put_alone(desk: &mut Desk, what: Alone) {
     let state = desk.state;
     let tally = desk.tally;
     match what {
-        Alone::Offer => wording::put_offer(out, desk.used, state),
-        Alone::Waiting => wording::put_waiting(out, desk.used, state),
-        Alone::Tally => taking::put_tally(out, desk.used, tally),
-        Alone::Orders => wording::put_orders(out, desk.used, names, state),
-        Alone::Offers => wording::put_offers(out, desk.used, names, state),
-        Alone::Draw | Alone::Collect | Alone::Names | Alone::Check | Alone::Write => desk.used,
+        Alone::Offer => wording::put_offer(&mut desk.out, state),
+        Alone::Waiting => wording::put_waiting(&mut desk.out, state),
+        Alone::Tally => taking::put_tally(&mut desk.out, tally),
+        Alone::Orders => wording::put_orders(&mut desk.out, &desk.names, state),
+        Alone::Offers => wording::put_offers(&mut desk.out, &desk.names, state),
+        Alone::Draw | Alone::Collect | Alone::Names | Alone::Check | Alone::Write => {}
     }
 }
 
 // A command with a word.
-fn answer_worded(
-    desk: Desk,
-    what: Worded,
-    word: &[u8],
-    number: u64,
-    bytes: &mut [u8; 8000],
-    names: &mut [u8; 16896],
-    out: &mut Out,
-) -> Desk {
+fn answer_worded(desk: &mut Desk, what: Worded, word: &[u8], number: u64) {
     match what {
-        Worded::Plan => papers::load(desk, word, number, bytes, names, out),
-        Worded::Save => papers::save(desk, word, number, names, out),
-        Worded::Open => papers::open(desk, word, number, bytes, names, out),
-        Worded::Mend => papers::mend(desk, word, number, bytes, names, out),
+        Worded::Plan => papers::load(desk, word, number),
+        Worded::Save => papers::save(desk, word, number),
+        Worded::Open => papers::open(desk, word, number),
+        Worded::Mend => papers::mend(desk, word, number),
     }
 }
 
 // The order in a slot.
-fn answer_order(desk: Desk, slot: u32, number: u64, names: &[u8; 16896], out: &mut Out) -> Desk {
+fn answer_order(desk: &mut Desk, slot: u32, number: u64) {
     if 15 < slot {
-        let used = put_error(out, desk.used, number, b"the slots are 0 to 15");
-        return failed(desk, used);
+        desk.out.put_error(number, b"the slots are 0 to 15");
+        desk.fail();
+    } else {
+        let state = desk.state;
+        wording::put_order(&mut desk.out, &desk.names, state, slot as usize);
     }
-    let state = desk.state;
-    let used = wording::put_order(out, desk.used, names, state, slot as usize);
-    shown(desk, used)
 }
 
 // A command with a number.
-fn answer_numbered(
-    desk: Desk,
-    what: Numbered,
-    k: u32,
-    number: u64,
-    bytes: &[u8; 8000],
-    names: &[u8; 16896],
-    out: &mut Out,
-) -> Desk {
+fn answer_numbered(desk: &mut Desk, what: Numbered, k: u32, number: u64) {
     match what {
-        Numbered::Show => papers::show(desk, k, bytes, out),
-        Numbered::Step => taking::step(desk, k, out),
-        Numbered::Order => answer_order(desk, k, number, names, out),
+        Numbered::Show => papers::show(desk, k),
+        Numbered::Step => taking::step(desk, k),
+        Numbered::Order => answer_order(desk, k, number),
     }
 }
 
 // A command with numbers.
-fn answer_listed(
-    desk: Desk,
-    what: Listed,
-    line: &[u8],
-    from: usize,
-    number: u64,
-    out: &mut Out,
-) -> Desk {
+fn answer_listed(desk: &mut Desk, what: Listed, line: &[u8], from: usize, number: u64) {
     match what {
-        Listed::Post => taking::post(desk, line, from, number, out),
-        Listed::Run => taking::run(desk, line, from, number, out),
+        Listed::Post => taking::post(desk, line, from, number),
+        Listed::Run => taking::run(desk, line, from, number),
     }
 }
 
 // The answer to a line, whose number is `number`. The last plan stands in `bytes`, and its names, where it was written with some, in `names`.
-pub fn answer(
-    desk: Desk,
-    line: &[u8],
-    number: u64,
-    bytes: &mut [u8; 8000],
-    names: &mut [u8; 16896],
-    out: &mut Out,
-) -> Desk {
-    let c = commands::command_of(line);
-    match c {
-        Command::Nothing => desk,
-        Command::Wrong { why } => wrong(desk, number, why, out),
-        Command::Alone { what } => answer_alone(desk, what, number, bytes, names, out),
-        Command::Worded { what, from, to } => answer_worded(
+pub fn answer(desk: &mut Desk, line: &[u8], number: u64) {
+    match commands::command_of(line) {
+        Ok(Command::Nothing) => {}
+        Ok(Command::Alone { what }) => answer_alone(desk, what, number),
+        Ok(Command::Worded { what, from, to }) => answer_worded(
             desk,
             what,
             &line[from..to],
             number,
-            bytes,
-            names,
-            out,
         ),
-        Command::Numbered { what, k } => answer_numbered(desk, what, k, number, bytes, names, out),
-        Command::Listed { what, from } => answer_listed(desk, what, line, from, number, out),
+        Ok(Command::Numbered { what, k }) => answer_numbered(desk, what, k, number),
+        Ok(Command::Listed { what, from }) => answer_listed(desk, what, line, from, number),
+        Err(why) => wrong(desk, number, why),
     }
 }

@@ -1,6 +1,6 @@
 // The numbers that a post or a run takes, and the partner to reply to behind those of a post.
 use commands::Trouble;
-use text::{Decimal, Word};
+use text::{DecimalError, Word};
 
 // What is found where a number may stand: one, with the place after it; the end of the line; or trouble.
 #[derive(Clone, Copy)]
@@ -24,13 +24,12 @@ fn next_number(line: &[u8], at: usize) -> Next {
     if to <= from {
         return Next::End;
     }
-    let d = text::decimal_of(&line[from..to]);
-    match d {
-        Decimal::Value { value } => Next::Number { value, to },
-        Decimal::Large => Next::Wrong {
+    match text::decimal_of(&line[from..to]) {
+        Ok(value) => Next::Number { value, to },
+        Err(DecimalError::Large) => Next::Wrong {
             why: Trouble::Large,
         },
-        Decimal::Bad => Next::Wrong {
+        Err(DecimalError::Bad) => Next::Wrong {
             why: Trouble::Unnumbered,
         },
     }

@@ -2,10 +2,10 @@
 use super::answering::wrong;
 use super::lists::{Numbers, Reply, before, numbers_of, reply_in, reply_of, rest_of};
 use commands::Trouble;
-use drawing::{Out, put, put_byte, put_next, put_pair, put_refusal};
+use drawing::Out;
 use machine::{Collected, Message, State, Step, Tally};
 use order::End;
-use papers::{Desk, changed};
+use papers::Desk;
 use run::Ran;
 use text::Word;
 use wording::put_message;
@@ -29,46 +29,46 @@ pub fn message_of(numbers: &[u32; 1001], count: usize, reply: u32) -> Message {
     }
 }
 
-fn posted(desk: Desk, m: Message, out: &mut Out) -> Desk {
+fn posted(desk: &mut Desk, m: Message) {
     let before = desk.state;
     let p = mail::post(before, m);
-    let used = put_refusal(out, desk.used, b"post", p.refusal);
+    desk.out.put_refusal(b"post", p.refusal);
     let state = p.state;
     let tally = desk.tally;
-    changed(desk, state, tally, desk.plan, used)
+    desk.change(state, tally);
 }
 
 // Posts a message by its numbers, so many of them; its partner to reply to stands behind the word `reply` of the line.
 fn posted_with(
-    desk: Desk,
+    desk: &mut Desk,
     line: &[u8],
     reply: Word,
     number: u64,
     numbers: &[u32; 1001],
     count: usize,
-    out: &mut Out,
-) -> Desk {
+) {
     if count < 2 {
-        return wrong(desk, number, Trouble::Missing, out);
-    }
-    let r = reply_of(line, reply);
-    match r {
-        Reply::Wrong { why } => wrong(desk, number, why, out),
-        Reply::Partner { number: partner } => {
-            let m = message_of(numbers, count - 2, partner);
-            posted(desk, m, out)
+        wrong(desk, number, Trouble::Missing);
+    } else {
+        let r = reply_of(line, reply);
+        match r {
+            Reply::Wrong { why } => wrong(desk, number, why),
+            Reply::Partner { number: partner } => {
+                let m = message_of(numbers, count - 2, partner);
+                posted(desk, m);
+            }
         }
     }
 }
 
 // Posts a message: a partner, an operation, and up to eight values; then the partner to reply to, where one is named.
-pub(crate) fn post(desk: Desk, line: &[u8], from: usize, number: u64, out: &mut Out) -> Desk {
+pub(crate) fn post(desk: &mut Desk, line: &[u8], from: usize, number: u64) {
     let mut numbers = [0u32; 1001];
     let reply = reply_in(line, from);
     let n = numbers_of(before(line, reply.from), from, 11, &mut numbers);
     match n {
-        Numbers::Wrong { why } => wrong(desk, number, why, out),
-        Numbers::All { count } => posted_with(desk, line, reply, number, &numbers, count, out),
+        Numbers::Wrong { why } => wrong(desk, number, why),
+        Numbers::All { count } => posted_with(desk, line, reply, number, &numbers, count),
     }
 }
 
@@ -83,37 +83,38 @@ fn number_of(end: End) -> u64 {
 }
 
 // The number of the fault by which an order ended handled or failed; where it did not, a dash.
-fn put_fault(out: &mut Out, used: usize, end: End, fault: u8) -> usize {
+fn put_fault(out: &mut Out, end: End, fault: u8) {
     match end {
-        End::Handled | End::Failed => put_next(out, used, fault as u64),
-        End::None | End::Well | End::Left => put(out, used, b" -"),
+        End::Handled | End::Failed => out.put_next(fault as u64),
+        End::None | End::Well | End::Left => out.put(b" -"),
     }
 }
 
 // What a step answers.
-pub fn put_step(out: &mut Out, used: usize, x: Step) -> usize {
+pub fn put_step(out: &mut Out, x: Step) {
     if x.refusal != 0 {
-        return put_refusal(out, used, b"step", x.refusal);
+        out.put_refusal(b"step", x.refusal);
+        return;
     }
     let end = x.end;
-    let mut at = put(out, used, b"step 0");
-    at = put_next(out, at, x.slot as u64);
-    at = put_next(out, at, x.activity as u64);
-    at = put_next(out, at, x.place as u64);
-    at = put_next(out, at, number_of(end));
-    at = put_fault(out, at, end, x.fault);
-    put_byte(out, at, 10)
+    out.put(b"step 0");
+    out.put_next(x.slot as u64);
+    out.put_next(x.activity as u64);
+    out.put_next(x.place as u64);
+    out.put_next(number_of(end));
+    put_fault(out, end, x.fault);
+    out.put_byte(b'\n');
 }
 
-pub(crate) fn step(desk: Desk, choice: u32, out: &mut Out) -> Desk {
+pub(crate) fn step(desk: &mut Desk, choice: u32) {
     let before = desk.state;
     let counted = desk.tally;
     let r = step::take_step(before, choice as usize, counted);
     let x = r.answer;
     let state = r.state;
     let tally = r.tally;
-    let used = put_step(out, desk.used, x);
-    changed(desk, state, tally, desk.plan, used)
+    put_step(&mut desk.out, x);
+    desk.change(state, tally);
 }
 
 fn ran_of(state: State, tally: Tally, choices: &[usize], n: usize, budget: u32) -> Ran {
@@ -124,60 +125,59 @@ fn ran_of(state: State, tally: Tally, choices: &[usize], n: usize, budget: u32) 
     run::run(state, choices, &mut left, tally)
 }
 
-fn ran_by(desk: Desk, choices: &[usize; 1000], n: usize, budget: u32, out: &mut Out) -> Desk {
+fn ran_by(desk: &mut Desk, choices: &[usize; 1000], n: usize, budget: u32) {
     let before = desk.state;
     let counted = desk.tally;
     let r = ran_of(before, counted, choices, n, budget);
     let state = r.state;
     let tally = r.tally;
-    let used = put_pair(out, desk.used, b"run", r.taken as u64, r.refusal as u64);
-    changed(desk, state, tally, desk.plan, used)
+    desk.out.put_pair(b"run", r.taken as u64, r.refusal as u64);
+    desk.change(state, tally);
 }
 
 // Takes steps by a budget and up to 1,000 choices.
-pub(crate) fn run(desk: Desk, line: &[u8], from: usize, number: u64, out: &mut Out) -> Desk {
+pub(crate) fn run(desk: &mut Desk, line: &[u8], from: usize, number: u64) {
     let mut numbers = [0u32; 1001];
     let n = numbers_of(line, from, 1002, &mut numbers);
     match n {
-        Numbers::Wrong { why } => wrong(desk, number, why, out),
+        Numbers::Wrong { why } => wrong(desk, number, why),
+        Numbers::All { count: 0 } => wrong(desk, number, Trouble::Missing),
         Numbers::All { count } => {
-            if count < 1 {
-                return wrong(desk, number, Trouble::Missing, out);
-            }
             let choices = rest_of(&numbers);
-            ran_by(desk, &choices, count - 1, numbers[0], out)
+            ran_by(desk, &choices, count - 1, numbers[0]);
         }
     }
 }
 
 // A message that is handed out, behind its command word.
-pub fn put_collected(out: &mut Out, used: usize, word: &[u8], c: Collected) -> usize {
+pub fn put_collected(out: &mut Out, word: &[u8], c: Collected) {
     if c.refusal != 0 {
-        return put_refusal(out, used, word, c.refusal);
+        out.put_refusal(word, c.refusal);
+        return;
     }
     let m = c.message;
-    let mut at = put(out, used, word);
-    at = put(out, at, b" 0");
-    at = put_message(out, at, m);
-    put_byte(out, at, 10)
+    out.put(word);
+    out.put(b" 0");
+    put_message(out, m);
+    out.put_byte(b'\n');
 }
 
-pub(crate) fn collect(desk: Desk, out: &mut Out) -> Desk {
+pub(crate) fn collect(desk: &mut Desk) {
     let before = desk.state;
     let c = mail::collect(before);
-    let used = put_collected(out, desk.used, b"collect", c);
+    put_collected(&mut desk.out, b"collect", c);
     let state = c.state;
     let tally = desk.tally;
-    changed(desk, state, tally, desk.plan, used)
+    desk.change(state, tally);
 }
 
 // The five counts.
-pub fn put_tally(out: &mut Out, used: usize, tally: Tally) -> usize {
-    let mut at = put(out, used, b"tally");
-    at = put_next(out, at, tally.started as u64);
-    at = put_next(out, at, tally.well as u64);
-    at = put_next(out, at, tally.handled as u64);
-    at = put_next(out, at, tally.failed as u64);
-    at = put_next(out, at, tally.left as u64);
-    put_byte(out, at, 10)
+pub fn put_tally(out: &mut Out, tally: Tally) {
+    out.put(b"tally");
+    out.put_next(tally.started as u64);
+    out.put_next(tally.well as u64);
+    out.put_next(tally.handled as u64);
+    out.put_next(tally.failed as u64);
+    out.put_next(tally.left as u64);
+    out.put_byte(b'\n');
 }

@@ -1,97 +1,51 @@
 // A plan as text while its lines come in, after the line `write`.
+use arrayvec::ArrayVec;
 
-// The line of the write, 0 where no text comes in; how many bytes of the text are kept; and the first line that could not be, 0 where all could,
-// with whether it is itself too long, or all of them together are.
+// Why a text cannot be kept: a line of it is too long, or all of them together are.
 #[derive(Clone, Copy)]
+pub enum Excess {
+    Line,
+    Text,
+}
+
+// The line of the write; what is kept of the text; and the first line that could not be, with the reason, where there is one.
+#[derive(Drop)]
 pub struct Incoming {
     pub line: u64,
-    pub used: usize,
-    pub wrong: u64,
-    pub long: bool,
+    pub text: ArrayVec<u8, 131072>,
+    pub spoilt: Option<(u64, Excess)>,
 }
 
-// No text comes in.
-pub fn none() -> Incoming {
-    Incoming {
-        line: 0,
-        used: 0,
-        wrong: 0,
-        long: false,
+impl Incoming {
+    // A text begins after this line.
+    pub fn begun(line: u64) -> Incoming {
+        Incoming {
+            line,
+            text: ArrayVec::new(),
+            spoilt: None,
+        }
     }
-}
 
-// One begins after this line.
-pub fn begun(line: u64) -> Incoming {
-    Incoming {
-        line,
-        used: 0,
-        wrong: 0,
-        long: false,
+    // The line with this number cannot be kept: one before it may be the first.
+    pub fn spoil(&mut self, number: u64, why: Excess) {
+        if self.spoilt.is_none() {
+            self.spoilt = Some((number, why));
+        }
     }
-}
 
-// The line with this number cannot be kept: one before it may be the first.
-pub fn spoilt(incoming: Incoming, number: u64, long: bool) -> Incoming {
-    if incoming.wrong == 0 {
-        return Incoming {
-            line: incoming.line,
-            used: incoming.used,
-            wrong: number,
-            long,
-        };
+    // A line more, with a line feed.
+    pub fn add(&mut self, line: &[u8], number: u64) {
+        if line.len() < self.text.remaining_capacity() {
+            let _ = self.text.try_extend_from_slice(line);
+            let _ = self.text.try_push(b'\n');
+        } else {
+            self.spoil(number, Excess::Text);
+        }
     }
-    incoming
 }
 
 // Whether a line ends the text: it has no word.
 pub fn is_end(line: &[u8]) -> bool {
     let w = text::word_at(line, 0);
     w.to <= w.from
-}
-
-fn put(text: &mut [u8; 131072], at: usize, b: u8) {
-    if at < 131072 {
-        text[at] = b;
-    }
-}
-
-// Whether so many bytes more have room.
-fn has_room(used: usize, length: usize) -> bool {
-    if used <= 131072 {
-        return length <= 131072 - used;
-    }
-    false
-}
-
-fn plus(used: usize, i: usize) -> usize {
-    if used <= 131072 {
-        if i <= 131072 {
-            return used + i;
-        }
-    }
-    131072
-}
-
-fn copy(text: &mut [u8; 131072], used: usize, line: &[u8]) {
-    let mut i = 0;
-    while i < line.len() {
-        put(text, plus(used, i), line[i]);
-        i += 1;
-    }
-    put(text, plus(used, line.len()), 10);
-}
-
-// A line more, with a line feed.
-pub fn added(text: &mut [u8; 131072], incoming: Incoming, line: &[u8], number: u64) -> Incoming {
-    let after = plus(incoming.used, plus(line.len(), 1));
-    if has_room(incoming.used, plus(line.len(), 1)) {
-        copy(text, incoming.used, line);
-        return Incoming {
-            line: incoming.line,
-            used: after,
-            wrong: incoming.wrong,
-            long: incoming.long,
-        };
-    }
-    spoilt(incoming, number, false)
 }

@@ -5,20 +5,20 @@ mod incoming;
 mod words;
 
 use commands::Command;
-use drawing::Out;
-use incoming::Incoming;
-use papers::Desk;
+use incoming::{Excess, Incoming};
+use papers::{Desk, Said};
 use phrases::What;
 use std::io::Read;
-use text::Line;
 
-// The console; the text of a plan that comes in; the number of lines ended so far; how many bytes of the present line are kept; whether each line
-// is repeated before its answer, whether an error ends the session, and whether who types is asked for the next line; and whether input may follow.
-#[derive(Clone, Copy)]
+// The console; the text of a plan that comes in, where one does; the number of lines ended so far; the present line, as far as it is kept, and how many
+// bytes of it are; whether each line is repeated before its answer, whether an error ends the session, and whether who types is asked for the next line;
+// and whether input may follow.
+#[derive(Drop)]
 struct Session {
     desk: Desk,
-    incoming: Incoming,
+    incoming: Option<Incoming>,
     lines: u64,
+    line: [u8; 16002],
     length: usize,
     echo: bool,
     strict: bool,
@@ -26,497 +26,213 @@ struct Session {
     open: bool,
 }
 
-// The same with another desk, and another text that comes in.
-fn turned(s: Session, desk: Desk, incoming: Incoming) -> Session {
-    Session {
-        desk,
-        incoming,
-        lines: s.lines,
-        length: s.length,
-        echo: s.echo,
-        strict: s.strict,
-        asking: s.asking,
-        open: s.open,
-    }
-}
-
-fn more(n: u64) -> u64 {
-    if n < u64::MAX {
-        return n + 1;
-    }
-    n
-}
-
-// A line as it was read: after a prompt, where it is no comment and not blank.
-fn put_echo(out: &mut Out, used: usize, line: &[u8]) -> usize {
-    let mut at = used;
-    let c = commands::command_of(line);
-    if let Command::Nothing = c {
-        at = drawing::put(out, at, line);
-    } else {
-        at = drawing::put(out, at, b"> ");
-        at = drawing::put(out, at, line);
-    }
-    drawing::put_byte(out, at, 10)
-}
-
-fn echoed(desk: Desk, echo: bool, line: &[u8], out: &mut Out) -> Desk {
-    let mut d = desk;
-    if echo {
-        d.used = put_echo(out, desk.used, line);
-    }
-    d
-}
-
-// A line of a text, comment or not; a prompt alone for the blank one that ends it.
-fn put_text_echo(out: &mut Out, used: usize, line: &[u8]) -> usize {
-    let mut at = drawing::put_byte(out, used, 62);
-    if 0 < line.len() {
-        at = drawing::put_byte(out, at, 32);
-    }
-    at = drawing::put(out, at, line);
-    drawing::put_byte(out, at, 10)
-}
-
-fn text_echoed(desk: Desk, echo: bool, line: &[u8], out: &mut Out) -> Desk {
-    let mut d = desk;
-    if echo {
-        d.used = put_text_echo(out, desk.used, line);
-    }
-    d
-}
-
 // Whether the lines that follow a line are a text.
 fn is_write(line: &[u8]) -> bool {
-    let p = phrases::phrase_of(line);
-    let what = p.what;
-    match what {
-        What::Write => true,
-        _ => false,
-    }
+    matches!(phrases::phrase_of(line).what, Ok(Some(What::Write)))
 }
 
-// Whether it is one that drops what is live.
-fn is_bold(line: &[u8]) -> bool {
-    let p = phrases::phrase_of(line);
-    p.bold
+// Whether a line is no command: a comment, or blank.
+fn is_nothing(line: &[u8]) -> bool {
+    matches!(commands::command_of(line), Ok(Command::Nothing))
 }
 
-// A text begins.
-fn begun(s: Session, desk: Desk, line: &[u8]) -> Session {
-    let mut d = desk;
-    d.bold = is_bold(line);
-    turned(s, d, incoming::begun(s.lines))
+// The first bytes of a line, so many of them; all where there are fewer.
+fn first(line: &[u8], length: usize) -> &[u8] {
+    line.get(..length).unwrap_or(line)
 }
 
-// A command.
-fn answered(
-    s: Session,
-    line: &[u8],
-    bytes: &mut [u8; 8000],
-    names: &mut [u8; 16896],
-    out: &mut Out,
-) -> Session {
-    let before = s.desk;
-    let d = echoed(before, s.echo, line, out);
-    if is_write(line) {
-        return begun(s, d, line);
-    }
-    let desk = speaking::answer(d, line, s.lines, bytes, names, out);
-    turned(s, desk, incoming::none())
-}
-
-fn put_spoilt(out: &mut Out, used: usize, incoming: Incoming) -> usize {
-    if incoming.long {
-        return drawing::put_error(
-            out,
-            used,
-            incoming.wrong,
-            b"the line has more than 16000 characters",
-        );
-    }
-    drawing::put_error(
-        out,
-        used,
-        incoming.wrong,
-        b"the text has more than 131072 characters",
-    )
-}
-
-fn written_of(
-    desk: Desk,
-    incoming: Incoming,
-    text: &[u8],
-    bytes: &mut [u8; 8000],
-    names: &mut [u8; 16896],
-    out: &mut Out,
-) -> Desk {
-    let used = incoming.used;
-    if used <= text.len() {
-        return speaking::written(desk, &text[0..used], incoming.line, bytes, names, out);
-    }
-    desk
-}
-
-// The text has ended.
-fn written_in(
-    desk: Desk,
-    incoming: Incoming,
-    text: &[u8; 131072],
-    bytes: &mut [u8; 8000],
-    names: &mut [u8; 16896],
-    out: &mut Out,
-) -> Desk {
-    if 0 < incoming.wrong {
-        let used = put_spoilt(out, desk.used, incoming);
-        return papers::failed(desk, used);
-    }
-    written_of(desk, incoming, text, bytes, names, out)
-}
-
-fn written(
-    s: Session,
-    text: &[u8; 131072],
-    bytes: &mut [u8; 8000],
-    names: &mut [u8; 16896],
-    out: &mut Out,
-) -> Session {
-    let before = s.desk;
-    let incoming = s.incoming;
-    let desk = written_in(before, incoming, text, bytes, names, out);
-    turned(s, desk, incoming::none())
-}
-
-// A line of a text, or the one that ends it.
-fn gathered(
-    s: Session,
-    line: &[u8],
-    text: &mut [u8; 131072],
-    bytes: &mut [u8; 8000],
-    names: &mut [u8; 16896],
-    out: &mut Out,
-) -> Session {
-    let before = s.desk;
-    let incoming = s.incoming;
-    let desk = text_echoed(before, s.echo, line, out);
-    if incoming::is_end(line) {
-        return written(turned(s, desk, incoming), text, bytes, names, out);
-    }
-    let next = incoming::added(text, incoming, line, s.lines);
-    turned(s, desk, next)
-}
-
-// A line without its end.
-fn taken(
-    s: Session,
-    line: &[u8],
-    text: &mut [u8; 131072],
-    bytes: &mut [u8; 8000],
-    names: &mut [u8; 16896],
-    out: &mut Out,
-) -> Session {
-    let incoming = s.incoming;
-    if incoming.line == 0 {
-        return answered(s, line, bytes, names, out);
-    }
-    gathered(s, line, text, bytes, names, out)
-}
-
-// A line that is too long: in a text, the text is not read.
-fn too_long(s: Session, out: &mut Out) -> Session {
-    let incoming = s.incoming;
-    let desk = s.desk;
-    if incoming.line == 0 {
-        let used = drawing::put_error(
-            out,
-            desk.used,
-            s.lines,
-            b"the line has more than 16000 characters",
-        );
-        return turned(s, papers::failed(desk, used), incoming);
-    }
-    turned(s, desk, incoming::spoilt(incoming, s.lines, true))
-}
-
-// The bytes kept of a line that has ended.
-fn ended_at(
-    s: Session,
-    kept: &[u8],
-    text: &mut [u8; 131072],
-    bytes: &mut [u8; 8000],
-    names: &mut [u8; 16896],
-    out: &mut Out,
-) -> Session {
-    let l = text::line_of(kept);
-    match l {
-        Line::Long => too_long(s, out),
-        Line::Text { length } => {
-            if length <= kept.len() {
-                return taken(s, &kept[0..length], text, bytes, names, out);
-            }
-            s
+impl Session {
+    // A line as it was read: after a prompt, where it is no comment and not blank.
+    fn echoed(&mut self, line: &[u8]) {
+        if !self.echo {
+            return;
         }
+        if !is_nothing(line) {
+            self.desk.out.put(b"> ");
+        }
+        self.desk.out.put(line);
+        self.desk.out.put_byte(b'\n');
     }
-}
 
-// The session at the start of its next line.
-fn counted(s: Session) -> Session {
-    let desk = s.desk;
-    let incoming = s.incoming;
-    Session {
-        desk,
-        incoming,
-        lines: more(s.lines),
-        length: 0,
-        echo: s.echo,
-        strict: s.strict,
-        asking: s.asking,
-        open: s.open,
+    // A line of a text, comment or not; a prompt alone for the blank one that ends it.
+    fn text_echoed(&mut self, line: &[u8]) {
+        if !self.echo {
+            return;
+        }
+        self.desk.out.put_byte(b'>');
+        if !line.is_empty() {
+            self.desk.out.put_byte(b' ');
+        }
+        self.desk.out.put(line);
+        self.desk.out.put_byte(b'\n');
     }
-}
 
-// Whether the session ends here: it was told to, an answer could not be written, or an error ends it.
-fn is_over(strict: bool, desk: Desk) -> bool {
-    if desk.over {
-        return true;
-    }
-    if drawing::is_lost(desk.used) {
-        return true;
-    }
-    if strict {
-        return desk.said == 1000;
-    }
-    false
-}
-
-// The session after a line.
-fn gone_on(s: Session) -> Session {
-    let mut next = s;
-    let desk = s.desk;
-    if is_over(s.strict, desk) {
-        next.open = false;
-    }
-    next
-}
-
-fn ended_of(
-    s: Session,
-    line: &[u8],
-    text: &mut [u8; 131072],
-    bytes: &mut [u8; 8000],
-    names: &mut [u8; 16896],
-    out: &mut Out,
-) -> Session {
-    let length = s.length;
-    let next = counted(s);
-    if length <= line.len() {
-        let after = ended_at(next, &line[0..length], text, bytes, names, out);
-        return gone_on(after);
-    }
-    s
-}
-
-fn ended(
-    s: Session,
-    line: &[u8; 16002],
-    text: &mut [u8; 131072],
-    bytes: &mut [u8; 8000],
-    names: &mut [u8; 16896],
-    out: &mut Out,
-) -> Session {
-    if s.open {
-        return ended_of(s, line, text, bytes, names, out);
-    }
-    s
-}
-
-fn feed(
-    s: Session,
-    chunk: &[u8],
-    line: &mut [u8; 16002],
-    text: &mut [u8; 131072],
-    bytes: &mut [u8; 8000],
-    names: &mut [u8; 16896],
-    out: &mut Out,
-) -> Session {
-    let mut session = s;
-    let mut i = 0;
-    while i < chunk.len() {
-        if chunk[i] == 10 {
-            session = ended(session, line, text, bytes, names, out);
+    // A command, or the beginning of a text; that may drop what is live.
+    fn answered(&mut self, line: &[u8]) {
+        self.echoed(line);
+        if is_write(line) {
+            self.desk.bold = phrases::phrase_of(line).bold;
+            self.incoming = Some(Incoming::begun(self.lines));
         } else {
-            session.length = text::keep(line, session.length, chunk[i]);
-        }
-        i += 1;
-    }
-    session
-}
-
-// The last line, where it has no line end.
-fn last_ended(
-    s: Session,
-    line: &[u8; 16002],
-    text: &mut [u8; 131072],
-    bytes: &mut [u8; 8000],
-    names: &mut [u8; 16896],
-    out: &mut Out,
-) -> Session {
-    if 0 < s.length {
-        return ended(s, line, text, bytes, names, out);
-    }
-    s
-}
-
-// At the end of the input a last line may have no line end, and a text no blank line.
-fn closed(
-    s: Session,
-    line: &[u8; 16002],
-    text: &mut [u8; 131072],
-    bytes: &mut [u8; 8000],
-    names: &mut [u8; 16896],
-    out: &mut Out,
-) -> Session {
-    let mut last = last_ended(s, line, text, bytes, names, out);
-    let incoming = last.incoming;
-    if 0 < incoming.line {
-        last = written(last, text, bytes, names, out);
-    }
-    last.open = false;
-    warned(last, out)
-}
-
-// What is not saved at the end of the input is told, where the desk speaks to a person.
-fn warned(s: Session, out: &mut Out) -> Session {
-    let mut desk = s.desk;
-    let incoming = s.incoming;
-    if desk.spoken {
-        if speaking::is_at_risk(desk) {
-            let at = speaking::put_risk(desk, out, desk.used);
-            desk.used = drawing::put_byte(out, at, 10);
-            return turned(s, desk, incoming);
+            speaking::answer(&mut self.desk, line, self.lines);
         }
     }
-    s
-}
 
-fn failed(s: Session, out: &mut Out) -> Session {
-    let desk = s.desk;
-    let number = more(s.lines);
-    let used = drawing::put_error(out, desk.used, number, b"the input cannot be read");
-    let mut last = turned(s, papers::failed(desk, used), incoming::none());
-    last.open = false;
-    words::stopped(drawing::runtime_of(out), b"the input cannot be read\n");
-    last
-}
-
-// Reads once, and answers each line that ends in what was read.
-fn turn(
-    s: Session,
-    line: &mut [u8; 16002],
-    text: &mut [u8; 131072],
-    bytes: &mut [u8; 8000],
-    names: &mut [u8; 16896],
-    out: &mut Out,
-) -> Session {
-    let mut chunk = [0u8; 4096];
-    let mut stdin = drawing::runtime_of(out).stdin();
-    match stdin.read(&mut chunk) {
-        Ok(n) => {
-            if n == 0 {
-                return closed(s, line, text, bytes, names, out);
+    // The text has ended.
+    fn written(&mut self) {
+        if let Some(incoming) = self.incoming.take() {
+            match incoming.spoilt {
+                None => speaking::written(&mut self.desk, incoming.text.as_slice(), incoming.line),
+                Some((number, Excess::Line)) => self
+                    .desk
+                    .error(number, b"the line has more than 16000 characters"),
+                Some((number, Excess::Text)) => self
+                    .desk
+                    .error(number, b"the text has more than 131072 characters"),
             }
-            feed(s, &chunk[..n], line, text, bytes, names, out)
         }
-        Err(_) => failed(s, out),
     }
-}
 
-// Writes what waits.
-fn flushed(s: Session, out: &mut Out) -> Session {
-    let mut desk = s.desk;
-    let incoming = s.incoming;
-    desk.used = drawing::flush(out, desk.used);
-    gone_on(turned(s, desk, incoming))
-}
+    // A line without its end: a line of a text, or the one that ends it, or a command.
+    fn taken(&mut self, line: &[u8]) {
+        if self.incoming.is_none() {
+            self.answered(line);
+            return;
+        }
+        self.text_echoed(line);
+        if incoming::is_end(line) {
+            self.written();
+        } else if let Some(incoming) = &mut self.incoming {
+            incoming.add(line, self.lines);
+        }
+    }
 
-// Who types is asked for the next line.
-fn asked(s: Session, out: &mut Out) -> Session {
-    let mut desk = s.desk;
-    let incoming = s.incoming;
-    if s.asking {
-        if s.open {
-            if incoming.line == 0 {
-                desk.used = drawing::put(out, desk.used, b"desk> ");
-            } else {
-                desk.used = drawing::put(out, desk.used, b"text> ");
+    // A line that is too long: in a text, the text is not read.
+    fn too_long(&mut self) {
+        match &mut self.incoming {
+            Some(incoming) => incoming.spoil(self.lines, Excess::Line),
+            None => self
+                .desk
+                .error(self.lines, b"the line has more than 16000 characters"),
+        }
+    }
+
+    // Whether the session ends here: it was told to, an answer could not be written, or an error ends it.
+    fn is_over(&self) -> bool {
+        self.desk.over || self.desk.out.is_lost() || self.strict && self.desk.said == Said::Error
+    }
+
+    // The session goes on, or is over.
+    fn gone_on(&mut self) {
+        if self.is_over() {
+            self.open = false;
+        }
+    }
+
+    // The present line has ended.
+    fn ended(&mut self) {
+        if !self.open {
+            return;
+        }
+        let line = self.line;
+        let kept = first(&line, self.length);
+        self.lines = self.lines.saturating_add(1);
+        self.length = 0;
+        match text::line_of(kept) {
+            Some(length) => self.taken(first(kept, length)),
+            None => self.too_long(),
+        }
+        self.gone_on();
+    }
+
+    // What was read, line by line.
+    fn feed(&mut self, chunk: &[u8]) {
+        for b in chunk {
+            match *b {
+                b'\n' => self.ended(),
+                other => self.length = text::keep(&mut self.line, self.length, other),
             }
-            return turned(s, desk, incoming);
         }
     }
-    s
-}
 
-// A turn. Who types the commands sees each answer at once.
-fn round(
-    s: Session,
-    line: &mut [u8; 16002],
-    text: &mut [u8; 131072],
-    bytes: &mut [u8; 8000],
-    names: &mut [u8; 16896],
-    out: &mut Out,
-) -> Session {
-    let after = turn(s, line, text, bytes, names, out);
-    let next = asked(after, out);
-    flushed(next, out)
-}
-
-fn run(
-    s: Session,
-    line: &mut [u8; 16002],
-    text: &mut [u8; 131072],
-    bytes: &mut [u8; 8000],
-    names: &mut [u8; 16896],
-    out: &mut Out,
-) -> Session {
-    let mut session = s;
-    // nothing says that the input ends, so the turns are counted down from a number that no run uses up
-    let mut turns = u64::MAX;
-    while turns > 0 {
-        if !session.open {
-            return session;
+    // What is not saved at the end of the input is told, where the desk speaks to a person.
+    fn warned(&mut self) {
+        if self.desk.spoken && speaking::is_at_risk(&self.desk) {
+            speaking::put_risk(&mut self.desk);
+            self.desk.out.put_byte(b'\n');
         }
-        session = round(session, line, text, bytes, names, out);
-        turns -= 1;
     }
-    session
-}
 
-// Why the session ended before its input did, where it did, on standard error: so a script that runs the desk knows.
-fn told(s: Session, runtime: HostRuntime) {
-    let desk = s.desk;
-    if drawing::is_lost(desk.used) {
-        words::stopped(runtime, b"an answer could not be written\n");
-        return;
+    // At the end of the input a last line may have no line end, and a text no blank line.
+    fn closed(&mut self) {
+        if 0 < self.length {
+            self.ended();
+        }
+        self.written();
+        self.open = false;
+        self.warned();
     }
-    if s.strict {
-        if desk.said == 1000 {
+
+    // The input cannot be read.
+    fn failed(&mut self) {
+        let number = self.lines.saturating_add(1);
+        self.desk.error(number, b"the input cannot be read");
+        self.incoming = None;
+        self.open = false;
+        words::stopped(self.desk.out.runtime(), b"the input cannot be read\n");
+    }
+
+    // Reads once, and answers each line that ends in what was read.
+    fn turn(&mut self) {
+        let mut chunk = [0u8; 4096];
+        let mut stdin = self.desk.out.runtime().stdin();
+        match stdin.read(&mut chunk) {
+            Ok(0) => self.closed(),
+            Ok(n) => self.feed(&chunk[..n]),
+            Err(_) => self.failed(),
+        }
+    }
+
+    // Writes what waits.
+    fn flushed(&mut self) {
+        self.desk.out.flush();
+        self.gone_on();
+    }
+
+    // Who types is asked for the next line.
+    fn asked(&mut self) {
+        if self.asking && self.open {
+            match self.incoming {
+                None => self.desk.out.put(b"desk> "),
+                Some(_) => self.desk.out.put(b"text> "),
+            }
+        }
+    }
+
+    // All of the input. Who types the commands sees each answer at once.
+    fn run(&mut self) {
+        self.asked();
+        self.flushed();
+        // nothing says that the input ends, so the turns are counted up to a number that no run uses up
+        for _ in 0..u64::MAX {
+            if !self.open {
+                return;
+            }
+            self.turn();
+            self.asked();
+            self.flushed();
+        }
+    }
+
+    // Why the session ended before its input did, where it did, on standard error: so a script that runs the desk knows.
+    fn told(&self) {
+        let runtime = self.desk.out.runtime();
+        if self.desk.out.is_lost() {
+            words::stopped(runtime, b"an answer could not be written\n");
+        } else if self.strict && self.desk.said == Said::Error {
             words::stopped(runtime, b"the last line is an error\n");
         }
     }
-}
-
-// The session on all of the input.
-fn served(start: Session, runtime: HostRuntime) {
-    let mut line = [0u8; 16002];
-    let mut text = [0u8; 131072];
-    let mut bytes = [0u8; 8000];
-    let mut names = [0u8; 16896];
-    let mut out = drawing::standard(runtime);
-    let first = flushed(asked(start, &mut out), &mut out);
-    let last = run(
-        first, &mut line, &mut text, &mut bytes, &mut names, &mut out,
-    );
-    told(last, runtime);
 }
 
 fn main(rt: HostRuntime) {
@@ -536,17 +252,19 @@ fn main(rt: HostRuntime) {
         );
         return;
     }
-    let mut desk = papers::new();
+    let mut desk = Desk::new(rt);
     desk.spoken = !w.plain;
-    let start = Session {
+    let mut session = Session {
         desk,
-        incoming: incoming::none(),
+        incoming: None,
         lines: 0,
+        line: [0u8; 16002],
         length: 0,
         echo: w.echo,
         strict: w.strict,
         asking: words::is_typed(rt),
         open: true,
     };
-    served(start, rt);
+    session.run();
+    session.told();
 }

@@ -1,69 +1,72 @@
 // An expression in words, by its nodes: each operation in the form that the crate forms has for it.
 use super::naming::put_variable;
-use super::output::{Out, put, put_byte, put_number};
+use super::output::Out;
 use super::table::{code_of, value_of};
+use forms::Form;
 use plan::table::Table;
 
-fn put_operator(out: &mut Out, used: usize, form: u32) -> usize {
+fn put_operator(out: &mut Out, form: Form) {
     match form {
-        2 => put(out, used, b" + "),
-        3 => put(out, used, b" - "),
-        4 => put(out, used, b" = "),
-        5 => put(out, used, b" < "),
-        forms::AND => put(out, used, b" and "),
-        forms::OR => put(out, used, b" or "),
-        forms::NOT_LESS => put(out, used, b" >= "),
-        forms::MORE => put(out, used, b" > "),
-        forms::NOT_MORE => put(out, used, b" <= "),
-        _ => put(out, used, b" != "),
+        Form::Plus => out.put(b" + "),
+        Form::Minus => out.put(b" - "),
+        Form::Equal => out.put(b" = "),
+        Form::Less => out.put(b" < "),
+        Form::And => out.put(b" and "),
+        Form::Or => out.put(b" or "),
+        Form::NotLess => out.put(b" >= "),
+        Form::More => out.put(b" > "),
+        Form::NotMore => out.put(b" <= "),
+        _ => out.put(b" != "),
     }
 }
 
 // A constant or a variable. (No node of an accepted plan is anything else where no level is left.)
-fn put_leaf(out: &mut Out, used: usize, names: &[u8; 16896], table: &Table, m: usize) -> usize {
+fn put_leaf(out: &mut Out, names: &[u8; 16896], table: &Table, m: usize) {
     let value = value_of(table, m);
     if code_of(table, m) == 0 {
-        return put_number(out, used, value as u64);
+        out.put_number(value as u64);
+    } else {
+        put_variable(out, names, value);
     }
-    put_variable(out, used, names, value)
 }
 
 // A byte, where it is wanted.
-fn put_if(out: &mut Out, used: usize, wanted: bool, b: u8) -> usize {
+fn put_if(out: &mut Out, wanted: bool, b: u8) {
     if wanted {
-        return put_byte(out, used, b);
+        out.put_byte(b);
     }
-    used
 }
 
 // The expression whose first node is m, where `depth` levels are left below it; an operation that is an operand stands in parentheses.
 pub(crate) fn put_expression(
     out: &mut Out,
-    used: usize,
     names: &[u8; 16896],
     table: &Table,
     m: usize,
     depth: usize,
     operand: bool,
-) -> usize {
+) {
     if code_of(table, m) < 2 {
-        return put_leaf(out, used, names, table, m);
+        put_leaf(out, names, table, m);
+        return;
     }
     if depth == 0 {
-        return put_leaf(out, used, names, table, m);
+        put_leaf(out, names, table, m);
+        return;
     }
     let form = forms::form_of(table, m);
     let first = forms::first_of(table, m, form);
-    let opened = put_if(out, used, operand, 40);
-    if form == forms::NOT {
-        let not = put(out, opened, b"not ");
-        let whole = put_expression(out, not, names, table, first, depth - 1, true);
-        return put_if(out, whole, operand, 41);
+    put_if(out, operand, 40);
+    if form == Form::Not {
+        out.put(b"not ");
+        put_expression(out, names, table, first, depth - 1, true);
+        put_if(out, operand, 41);
+        return;
     }
-    let left = put_expression(out, opened, names, table, first, depth - 1, true);
-    let between = put_operator(out, left, form);
+    put_expression(out, names, table, first, depth - 1, true);
+    put_operator(out, form);
     let second = forms::second_of(table, m, form);
     let apart = !forms::goes_on(table, form, second);
-    let right = put_expression(out, between, names, table, second, depth - 1, apart);
-    put_if(out, right, operand, 41)
+    put_expression(out, names, table, second, depth - 1, apart);
+    put_if(out, operand, 41);
 }

@@ -6,311 +6,178 @@
 use drawing::Out;
 use papers::Desk;
 use std::io::Read;
-use text::Line;
 
-// The console; the number of lines ended so far; how many bytes of the present line are kept; the examples begun, and those that agreed, the
-// present one not counted; the line at which the present one was first answered otherwise, or 0; how much of the report waits to be written; and
-// whether input may follow.
-#[derive(Clone, Copy)]
+// The console, and what is reported; the number of lines ended so far; the present line, as far as it is kept, and how many bytes of it are; the examples
+// begun, and those that agreed, the present one not counted; the line at which the present one was first answered otherwise, where it was; and whether input
+// may follow.
+#[derive(Drop)]
 struct Session {
     desk: Desk,
+    report: Out,
     lines: u64,
+    line: [u8; 16002],
     length: usize,
     examples: u64,
     agreed: u64,
-    differs: u64,
-    used: usize,
+    differs: Option<u64>,
     open: bool,
 }
 
-fn more(n: u64) -> u64 {
-    if n < u64::MAX {
-        return n + 1;
-    }
-    n
+// The first bytes of a line, so many of them; all where there are fewer.
+fn first(line: &[u8], length: usize) -> &[u8] {
+    line.get(..length).unwrap_or(line)
 }
 
-// Whether a text begins with another.
-fn begins(text: &[u8], start: &[u8]) -> bool {
-    let mut i = 0;
-    while i < start.len() {
-        if text.len() <= i {
-            return false;
-        }
-        if text[i] != start[i] {
-            return false;
-        }
-        i += 1;
-    }
-    true
+// What stands from a place of a line on; nothing behind its end.
+fn behind(line: &[u8], place: usize) -> &[u8] {
+    line.get(place..).unwrap_or(b"")
 }
 
-// The place of the `=` before the answer; the end of the line where there is none.
-fn mark_of(line: &[u8]) -> usize {
-    let mut i = 0;
-    while i < line.len() {
-        if line[i] == 61 {
-            return i;
-        }
-        i += 1;
+// What stands behind a text that begins so, where it does.
+fn after<'a>(text: &'a [u8], start: &[u8]) -> Option<&'a [u8]> {
+    if text.starts_with(start) {
+        return text.get(start.len()..);
     }
-    i
+    None
 }
 
-fn part(line: &[u8], from: usize, to: usize) -> &[u8] {
-    if from <= to {
-        if to <= line.len() {
-            return &line[from..to];
-        }
-    }
-    &line[0..0]
-}
-
-// What the console wrote is a line: the first word of the command, and then what stands behind the mark.
-fn agrees_with(written: &[u8], word: &[u8], rest: &[u8]) -> bool {
-    if begins(written, word) {
-        let behind = part(written, word.len(), written.len());
-        if begins(behind, rest) {
-            return begins(part(behind, rest.len(), behind.len()), b"\n");
-        }
-    }
-    false
-}
-
-fn agrees(out: &[u8], used: usize, line: &[u8], mark: usize) -> bool {
+// Whether what the console wrote is a line: the first word of the example's line, and then its answer.
+fn agrees(written: &[u8], line: &[u8], answer: &[u8]) -> bool {
     let w = text::word_at(line, 0);
-    let from = w.from;
-    let to = w.to;
-    agrees_with(
-        part(out, 0, used),
-        part(line, from, to),
-        part(line, next(mark), line.len()),
-    )
-}
-
-fn next(n: usize) -> usize {
-    if n < 16002 {
-        return n + 1;
-    }
-    n
-}
-
-fn agrees_in(out: &Out, used: usize, line: &[u8], mark: usize) -> bool {
-    agrees(drawing::waiting(out), used, line, mark)
-}
-
-// The line at which an example was first answered otherwise, after one more line.
-fn found(differs: u64, same: bool, number: u64) -> u64 {
-    if same {
-        return differs;
-    }
-    if differs == 0 {
-        return number;
-    }
-    differs
-}
-
-// A command with its answer.
-fn tried(
-    s: Session,
-    line: &[u8],
-    number: u64,
-    bytes: &mut [u8; 8000],
-    runtime: HostRuntime,
-) -> Session {
-    let mut out = drawing::standard(runtime);
-    // no example is written as text, so that there are no names
-    let mut names = [0u8; 16896];
-    let mark = mark_of(line);
-    let mut before = s.desk;
-    before.used = 0;
-    let desk = console::answer(
-        before,
-        part(line, 0, mark),
-        number,
-        bytes,
-        &mut names,
-        &mut out,
-    );
-    let same = agrees_in(&out, desk.used, line, mark);
-    Session {
-        desk,
-        lines: s.lines,
-        length: s.length,
-        examples: s.examples,
-        agreed: s.agreed,
-        differs: found(s.differs, same, number),
-        used: s.used,
-        open: s.open,
+    let word = line.get(w.from..w.to).unwrap_or(b"");
+    match after(written, word) {
+        Some(rest) => match after(rest, answer) {
+            Some(end) => end.starts_with(b"\n"),
+            None => false,
+        },
+        None => false,
     }
 }
 
-// What became of the present example.
-fn put_verdict(report: &mut Out, used: usize, examples: u64, differs: u64) -> usize {
-    if examples == 0 {
-        return used;
-    }
-    if differs == 0 {
-        return drawing::put(report, used, b": as expected\n");
-    }
-    let mut at = drawing::put(report, used, b": DIFFERS at line ");
-    at = drawing::put_number(report, at, differs);
-    drawing::put_byte(report, at, 10)
-}
-
-fn agreed_with(s: Session) -> u64 {
-    if s.examples == 0 {
-        return s.agreed;
-    }
-    if s.differs == 0 {
-        return more(s.agreed);
-    }
-    s.agreed
-}
-
-// A heading: the example before it is over.
-fn headed(s: Session, line: &[u8], report: &mut Out) -> Session {
-    let agreed = agreed_with(s);
-    let mut used = put_verdict(report, s.used, s.examples, s.differs);
-    used = drawing::put(report, used, part(line, 10, line.len()));
-    let desk = s.desk;
-    Session {
-        desk,
-        lines: s.lines,
-        length: s.length,
-        examples: more(s.examples),
-        agreed,
-        differs: 0,
-        used,
-        open: s.open,
-    }
-}
-
-// A line without its end.
-fn answered(
-    s: Session,
-    line: &[u8],
-    number: u64,
-    bytes: &mut [u8; 8000],
-    report: &mut Out,
-) -> Session {
-    if begins(line, b"# example ") {
-        return headed(s, line, report);
-    }
-    if begins(line, b"#") {
-        return s;
-    }
-    if line.len() == 0 {
-        return s;
-    }
-    tried(s, line, number, bytes, drawing::runtime_of(report))
-}
-
-// A line that is too long is answered otherwise than anything beside it.
-fn too_long(s: Session, number: u64) -> Session {
-    let mut t = s;
-    t.differs = found(s.differs, false, number);
-    t
-}
-
-fn ended_at(
-    s: Session,
-    kept: &[u8],
-    number: u64,
-    bytes: &mut [u8; 8000],
-    report: &mut Out,
-) -> Session {
-    let l = text::line_of(kept);
-    match l {
-        Line::Long => too_long(s, number),
-        Line::Text { length } => answered(s, part(kept, 0, length), number, bytes, report),
-    }
-}
-
-fn ended_of(s: Session, line: &[u8], bytes: &mut [u8; 8000], report: &mut Out) -> Session {
-    let number = more(s.lines);
-    let mut t = ended_at(s, part(line, 0, s.length), number, bytes, report);
-    t.lines = number;
-    t.length = 0;
-    t
-}
-
-fn ended(s: Session, line: &[u8; 16002], bytes: &mut [u8; 8000], report: &mut Out) -> Session {
-    ended_of(s, line, bytes, report)
-}
-
-fn feed(
-    s: Session,
-    chunk: &[u8],
-    line: &mut [u8; 16002],
-    bytes: &mut [u8; 8000],
-    report: &mut Out,
-) -> Session {
-    let mut session = s;
-    let mut i = 0;
-    while i < chunk.len() {
-        if chunk[i] == 10 {
-            session = ended(session, line, bytes, report);
-        } else {
-            session.length = text::keep(line, session.length, chunk[i]);
+impl Session {
+    // The present example is answered otherwise in this line, if not in one before it.
+    fn differ(&mut self, number: u64) {
+        if self.differs.is_none() {
+            self.differs = Some(number);
         }
-        i += 1;
     }
-    session
-}
 
-// Reads once.
-fn turn(s: Session, line: &mut [u8; 16002], bytes: &mut [u8; 8000], report: &mut Out) -> Session {
-    let mut chunk = [0u8; 4096];
-    let mut stdin = drawing::runtime_of(report).stdin();
-    let n = stdin.read(&mut chunk).unwrap_or(0);
-    if n == 0 {
-        let mut last = s;
-        last.open = false;
-        return last;
-    }
-    feed(s, &chunk[..n], line, bytes, report)
-}
-
-fn run(s: Session, line: &mut [u8; 16002], bytes: &mut [u8; 8000], report: &mut Out) -> Session {
-    let mut session = s;
-    // nothing says that the input ends, so the turns are counted down from a number that no run uses up
-    let mut turns = u64::MAX;
-    while turns > 0 {
-        if !session.open {
-            return session;
+    // A command with its answer, behind the first `=`.
+    fn tried(&mut self, line: &[u8]) {
+        let mark = line.iter().position(|b| *b == b'=').unwrap_or(line.len());
+        self.desk.out = Out::standard(self.report.runtime());
+        console::answer(&mut self.desk, first(line, mark), self.lines);
+        if !agrees(
+            self.desk.out.waiting(),
+            line,
+            behind(line, mark.saturating_add(1)),
+        ) {
+            self.differ(self.lines);
         }
-        session = turn(session, line, bytes, report);
-        turns -= 1;
     }
-    session
-}
 
-// How many examples there were, and how many agreed.
-fn put_count(s: Session, report: &mut Out) -> usize {
-    let mut used = put_verdict(report, s.used, s.examples, s.differs);
-    used = drawing::put_number(report, used, s.examples);
-    used = drawing::put(report, used, b" examples, ");
-    used = drawing::put_number(report, used, agreed_with(s));
-    drawing::put(report, used, b" as expected\n")
+    // What became of the present example.
+    fn put_verdict(&mut self) {
+        if self.examples == 0 {
+            return;
+        }
+        match self.differs {
+            None => {
+                self.agreed = self.agreed.saturating_add(1);
+                self.report.put(b": as expected\n");
+            }
+            Some(line) => {
+                self.report.put(b": DIFFERS at line ");
+                self.report.put_number(line);
+                self.report.put_byte(b'\n');
+            }
+        }
+    }
+
+    // A heading: the example before it is over.
+    fn headed(&mut self, line: &[u8]) {
+        self.put_verdict();
+        self.report.put(behind(line, 10));
+        self.examples = self.examples.saturating_add(1);
+        self.differs = None;
+    }
+
+    // A line without its end.
+    fn answered(&mut self, line: &[u8]) {
+        if line.starts_with(b"# example ") {
+            self.headed(line);
+        } else if !line.starts_with(b"#") && !line.is_empty() {
+            self.tried(line);
+        }
+    }
+
+    // The present line has ended. One that is too long is answered otherwise than anything beside it.
+    fn ended(&mut self) {
+        let line = self.line;
+        let kept = first(&line, self.length);
+        self.lines = self.lines.saturating_add(1);
+        self.length = 0;
+        match text::line_of(kept) {
+            Some(length) => self.answered(first(kept, length)),
+            None => self.differ(self.lines),
+        }
+    }
+
+    // What was read, line by line.
+    fn feed(&mut self, chunk: &[u8]) {
+        for b in chunk {
+            match *b {
+                b'\n' => self.ended(),
+                other => self.length = text::keep(&mut self.line, self.length, other),
+            }
+        }
+    }
+
+    // Reads once.
+    fn turn(&mut self) {
+        let mut chunk = [0u8; 4096];
+        let mut stdin = self.report.runtime().stdin();
+        let n = stdin.read(&mut chunk).unwrap_or(0);
+        if n == 0 {
+            self.open = false;
+        }
+        self.feed(&chunk[..n]);
+    }
+
+    // All of the input.
+    fn run(&mut self) {
+        // nothing says that the input ends, so the turns are counted up to a number that no run uses up
+        for _ in 0..u64::MAX {
+            if !self.open {
+                return;
+            }
+            self.turn();
+        }
+    }
+
+    // How many examples there were, and how many agreed.
+    fn put_count(&mut self) {
+        self.put_verdict();
+        self.report.put_number(self.examples);
+        self.report.put(b" examples, ");
+        self.report.put_number(self.agreed);
+        self.report.put(b" as expected\n");
+    }
 }
 
 fn main(rt: HostRuntime) {
-    let mut line = [0u8; 16002];
-    let mut bytes = [0u8; 8000];
-    let mut report = drawing::standard(rt);
-    let desk = papers::new();
-    let start = Session {
-        desk,
+    let mut session = Session {
+        desk: Desk::new(rt),
+        report: Out::standard(rt),
         lines: 0,
+        line: [0u8; 16002],
         length: 0,
         examples: 0,
         agreed: 0,
-        differs: 0,
-        used: 0,
+        differs: None,
         open: true,
     };
-    let last = run(start, &mut line, &mut bytes, &mut report);
-    let used = put_count(last, &mut report);
-    drawing::flush(&mut report, used);
+    session.run();
+    session.put_count();
+    session.report.flush();
 }

@@ -1,9 +1,10 @@
 -- Meaning: the starred examples of document 01, of numbers, of plans and of calls on a state, as rows of one table, and the statement that every row holds.
 -- Assumes nothing.
-use Rattle.std.specs.Prelude.{ℕ, ◌+◌, ◌≡◌, refl, Bool, true, cond, ◌&&◌, List, [], ◌∷◌, ◌++◌, length, take, set, eqb}
+use Rattle.std.specs.Prelude.{ℕ, ◌+◌, ◌≡◌, refl, Bool, true, cond, ◌&&◌, List, [], ◌∷◌, ◌++◌, length, take, set, eqb, Result, Ok, Err}
 use Rattle.numbers.specs.Number.{number_at}
 use Rattle.numbers.specs.declared.Number.{Number}
-use Rattle.numbers.specs.declared.Number.TheVariants.{Value, Short, Bad}
+use Rattle.numbers.specs.declared.Trouble.{Trouble}
+use Rattle.numbers.specs.declared.Trouble.TheVariants.{Short, Bad}
 use Rattle.plan.specs.Found.{Found, refused, found}
 use Rattle.plan.specs.Read.{read_plan}
 use Rattle.plan.specs.Tree.{Plan, size}
@@ -32,10 +33,10 @@ pub data Row : Type 0 where
   planned : (bytes answer : List ℕ) → Row
   ran : Run → Row
 
-abbrev pub of_number : Number → List ℕ
-of_number (Value value next) = 0 ∷ value ∷ next ∷ []
-of_number Short = 2 ∷ []
-of_number Bad = 3 ∷ []
+abbrev pub of_number : Result Number Trouble → List ℕ
+of_number (Ok r) = 0 ∷ r.value ∷ r.next ∷ []
+of_number (Err Short) = 2 ∷ []
+of_number (Err Bad) = 3 ∷ []
 
 abbrev pub of_plan : Found Plan → List ℕ
 of_plan (refused number place) = number ∷ place ∷ 0 ∷ []

@@ -1,134 +1,81 @@
 // What the table of an accepted plan says of its activities and arms. (The rows and the nodes are those of the crate plan, specs/Table.antt.)
-ghost use Rattle.std.specs.Prelude.{◌<◌};
-
 use plan::kind;
-use plan::table::{COUNT, END, FIRST_NUMBERS, KIND, NODES, OTHER_NUMBERS, Table, VALUES, WIDTH};
+use plan::table::{COUNT, END, FIRST_NUMBERS, KIND, OTHER_NUMBERS, Table, WIDTH};
 
-// Where an activity stands: how many activities and arms stand around it, and the nearest of these, or itself where there is none.
-#[derive(Clone, Copy)]
-pub struct Place {
-    pub depth: usize,
-    pub parent: usize,
+// An accepted plan: its table, and which of its variables are for correlation.
+#[derive(Clone, Copy, Drop)]
+pub(crate) struct Accepted<'a> {
+    pub(crate) table: &'a Table,
+    pub(crate) correlation: &'a [u8; 16],
 }
 
-// Number `field` of row n.
-pub(crate) fn entry(table: &Table, n: usize, field: usize) -> u32 {
-    if n < 256 {
-        if field < WIDTH {
-            return table[n * WIDTH + field];
-        }
-    }
-    0
+// Where an activity stands: how many activities and arms stand around it, and the nearest of these, where there is one.
+#[derive(Clone, Copy, PartialEq, Eq, Debug, Drop)]
+pub(crate) struct Place {
+    pub(crate) depth: usize,
+    pub(crate) parent: Option<usize>,
 }
 
 // Whether an activity of this kind is a scope.
 pub(crate) fn is_scope(kind: u32) -> bool {
-    if kind == kind::SCOPE {
-        return true;
-    }
-    if kind == kind::OPEN_SCOPE {
-        return true;
-    }
-    kind == kind::NUMBERED_SCOPE
+    matches!(kind, kind::SCOPE | kind::OPEN_SCOPE | kind::NUMBERED_SCOPE)
 }
 
-// How many fault parts by number scope s has: at most eight.
-pub(crate) fn numbers_of(table: &Table, s: usize) -> usize {
-    if entry(table, s, KIND) == kind::NUMBERED_SCOPE {
-        let count = entry(table, s, COUNT) as usize;
-        if count < 9 {
-            return count;
+impl Accepted<'_> {
+    // Number `field` of row n.
+    pub(crate) fn entry(self, n: usize, field: usize) -> u32 {
+        if n < 256 && field < WIDTH {
+            self.table[n * WIDTH + field]
+        } else {
+            0
         }
     }
-    0
-}
 
-// The number of fault part i of scope s, counted from 0.
-pub(crate) fn number_at(table: &Table, s: usize, i: usize) -> u32 {
-    if i < 2 {
-        return entry(table, s, FIRST_NUMBERS + i);
+    // How many fault parts by number scope s has: at most eight.
+    pub(crate) fn numbers_of(self, s: usize) -> usize {
+        if self.entry(s, KIND) != kind::NUMBERED_SCOPE {
+            return 0;
+        }
+        match self.entry(s, COUNT) {
+            count @ 0..=8 => count as usize,
+            _ => 0,
+        }
     }
-    if i < 8 {
-        return entry(table, s, OTHER_NUMBERS + i - 2);
-    }
-    0
-}
 
-// The code of expression node m.
-pub(crate) fn code_of(table: &Table, m: usize) -> u32 {
-    if m < 4096 {
-        return table[NODES + m * 2];
+    // The number of fault part i of scope s, counted from 0.
+    pub(crate) fn number_at(self, s: usize, i: usize) -> u32 {
+        match i {
+            0 | 1 => self.entry(s, FIRST_NUMBERS + i),
+            2..=7 => self.entry(s, OTHER_NUMBERS + i - 2),
+            _ => 0,
+        }
     }
-    0
-}
 
-// The value of expression node m: a constant, the number of a variable, or the number of the right operand's first node.
-pub(crate) fn value_of(table: &Table, m: usize) -> u32 {
-    if m < 4096 {
-        return table[VALUES + m * 2];
+    pub(crate) fn is_correlation(self, number: u32) -> bool {
+        number < 16 && self.correlation[number as usize] == 1
     }
-    0
-}
 
-// The number after m, of an activity, a level or a node.
-pub(crate) fn after(m: usize) -> usize {
-    if m < 4096 {
-        return m + 1;
+    // Whether activity n stands within activity m, which is before it.
+    fn is_around(self, m: usize, n: usize) -> bool {
+        n < self.entry(m, END) as usize
     }
-    m
-}
 
-// The number of an activity or arm, of which there are at most 256.
-pub(crate) fn narrow(n: usize) -> u32 {
-    if n < 256 {
-        return n as u32;
+    pub(crate) fn place_of(self, n: usize) -> Place {
+        Place {
+            depth: (0..n).filter(|m| self.is_around(*m, n)).count(),
+            parent: (0..n).rfind(|m| self.is_around(*m, n)),
+        }
     }
-    256
-}
 
-// The place of activity n, after activity m was looked at.
-fn seen_at(table: &Table, p: Place, m: usize, n: usize) -> Place {
-    if n < entry(table, m, END) as usize {
-        return Place {
-            depth: after(p.depth),
-            parent: m,
-        };
+    // Of those directly within activity `parent`, how many stand before activity n.
+    pub(crate) fn order_of(self, parent: usize, n: usize) -> usize {
+        let mut order = 0;
+        let mut m = parent.saturating_add(1);
+        // Stays: (d) the place goes on from the end of one activity to the next, over all that is within it.
+        while m < n {
+            m = (m + 1).max(self.entry(m, END) as usize);
+            order += 1;
+        }
+        order
     }
-    p
-}
-
-pub(crate) fn place_of(table: &Table, n: usize) -> Place {
-    let mut p = Place {
-        depth: 0,
-        parent: n,
-    };
-    let mut m = 0;
-    while m < n {
-        p = seen_at(table, p, m, n);
-        m += 1;
-    }
-    p
-}
-
-// The number after the last activity within activity m, or the next one where that says less.
-fn beyond(table: &Table, m: usize) -> usize
-    requires { m < 18446744073709551615 }
-    ensures { m < result }
-{
-    let end = entry(table, m, END) as usize;
-    if m < end {
-        return end;
-    }
-    m + 1
-}
-
-// Of those directly within activity `parent`, how many stand before activity n.
-pub(crate) fn order_of(table: &Table, parent: usize, n: usize) -> usize {
-    let mut order = 0;
-    let mut m = after(parent);
-    while m < n {
-        m = beyond(table, m);
-        order = after(order);
-    }
-    order
 }

@@ -2,7 +2,7 @@
 -- refuses with 3. Stated over how a number is read, it is one line for each reader of plan/specs/Read. Assumes nothing.
 use native.Mathlib.Omega.{arith}
 use native.Mathlib.Decide.{dec_lt}
-use borrow.Author.Tests.{ltb-false, ltb-true, leb-false, lt-ltb, le-ltb, le-leb, eqb-true}
+use borrow.Author.Tests.{lt-ltb, le-ltb, le-leb, eqb-true}
 use mathlib.Core.Path.{◌≡◌, refl, sym, ap, ◌∙◌}
 use mathlib.Core.Bool.{Bool, true, false, cond, not, ◌&&◌, ◌||◌}
 use mathlib.Core.List.{List, [], ◌∷◌, ◌++◌}
@@ -10,35 +10,37 @@ use Prim.Native.Nat.{ℕ, zero, suc, ◌+◌, ◌-◌, ◌*◌, ◌%◌, ◌≤�
 use lib.ListN.{length, get_or, take, drop, length-append, length-drop, take-append-drop}
 use lib.Seq.{length-take-le, drop-drop, drop-append_seam}
 use lib.Dec.{ltb, leb, eqb}
+use Rattle.std.specs.Prelude.{Result, Err}
 use Rattle.numbers.specs.declared.Number.{Number}
-use Rattle.numbers.specs.declared.Number.TheVariants.{Value, Short, Bad}
-use Rattle.numbers.specs.Number.{last_group, groups, number_at}
+use Rattle.numbers.specs.declared.Trouble.{Trouble}
+use Rattle.numbers.specs.declared.Trouble.TheVariants.{Short, Bad}
+use Rattle.numbers.specs.Number.{got, last_group, groups, number_at}
 use Rattle.numbers.specs.Shortest.{shortest}
 use Rattle.numbers.proofs.Laws.{shortest-is-read, shortest-long}
 use Rattle.plan.specs.Found.{Found, refused, found, and_then, found_number, number_in, field_in, among}
 use Rattle.plan.specs.Spell.{spell}
 use Rattle.plan.specs.Tree.{Exp, Own, to_partner, from_partner, send, receive, set, choose, repeat, sequence, flow, pick, arm, is_pick, Act, Plan, size}
-use Rattle.plan.specs.Read.{expression_code_in, operation_of, leaf_in, expression_in, variables_in, tuple_in, Head, head, exchange_in, arm_in, partner_in, held_send_in, asking_receive_in, with_expression_in, set_in, list_in, raise_in, namable, fault_number_in, is_code, is_scope_code, code_in, parts_in, head_in, many_in, numbered_in, numbered_scope_in, whole_in, read_arm, reads_in, later_of, read_act, start_form, correlation_in, version_in, closing, root_in, read_any}
-use Rattle.mend.specs.Padded.{groups_at, padded_at, numbers_from, numbers_of, shortened, place_from, place_of, last_place, no_number, original, read_padded}
-use Rattle.mend.proofs.PaddedLaws.{next-below, padded-bounds, padded-end}
-use Rattle.mend.proofs.RunReturns.{None, short, bad, none-as, end_none, numbers-none, spell-some, place_none, place-there, place-further, Left, left_over}
+use Rattle.plan.specs.Read.{expression_code_in, leaf_in, expression_in, variables_in, tuple_in, Head, exchange_in, arm_in, partner_in, held_send_in, asking_receive_in, with_expression_in, set_in, list_in, raise_in, namable, fault_number_in, is_code, is_scope_code, code_in, parts_in, head_in, many_in, numbered_in, numbered_scope_in, whole_in, read_arm, later_of, read_act, start_form, correlation_in, version_in, closing, root_in, read_any}
+use Rattle.mend.specs.Padded.{groups_at, padded_at, numbers_from, numbers_of, shortened, place_from, place_of, last_place, no_number, original}
+use Rattle.mend.proofs.PaddedLaws.{next-below, padded-bounds}
+use Rattle.mend.proofs.RunReturns.{None, trouble, none-as, end_none, numbers-none, spell-some, place_none, place-there, place-further, Left, left_over}
 use Rattle.mend.proofs.RunLaws.{shortened-fits}
 
 -- What plain reading makes of a number, and what padded reading does: the same, unless plain reading refuses it with 3.
-pub data Pair : Number → Number → Type 0 where
-  plain : {v next : ℕ} → Pair (Value v next) (Value v next)
-  cut : Pair Short Short
-  three : {y : Number} → Pair Bad y
+pub data Pair : Result Number Trouble → Result Number Trouble → Type 0 where
+  plain : {v next : ℕ} → Pair (got v next) (got v next)
+  cut : Pair (Err Short) (Err Short)
+  three : {y : Result Number Trouble} → Pair (Err Bad) y
 
-pair-cond : (t : Bool) {x y v w : Number} → (t ≡ true → Pair x y) → (t ≡ false → Pair v w) → Pair (cond t x v) (cond t y w)
+pair-cond : (t : Bool) {x y v w : Result Number Trouble} → (t ≡ true → Pair x y) → (t ≡ false → Pair v w) → Pair (cond t x v) (cond t y w)
 pair-cond true f g = f refl
 pair-cond false f g = g refl
 
-pair-cond-one : (t : Bool) {x v y : Number} → (t ≡ true → Pair x y) → (t ≡ false → Pair v y) → Pair (cond t x v) y
+pair-cond-one : (t : Bool) {x v y : Result Number Trouble} → (t ≡ true → Pair x y) → (t ≡ false → Pair v y) → Pair (cond t x v) y
 pair-cond-one true f g = f refl
 pair-cond-one false f g = g refl
 
-pair-last : (b scale sum next : ℕ) → sum < scale → Pair (last_group b scale (sum + b % 128 * scale) next) (Value (sum + b % 128 * scale) next)
+pair-last : (b scale sum next : ℕ) → sum < scale → Pair (last_group b scale (sum + b % 128 * scale) next) (got (sum + b % 128 * scale) next)
 unfolding last_group
 pair-last b scale sum next h =
     pair-cond-one (eqb b 0)
@@ -65,7 +67,7 @@ unfolding number_at padded_at
 pair s at = pair-groups 5 10 s at 1 0 (omega arith) (omega arith)
 
 -- a number in shortest form, at the place where its spelling starts
-pub number-there : (t r : List ℕ) (at v : ℕ) → at ≤ length t → drop at t ≡ shortest v ++ r → v ≤ 4294967295 → number_at t at ≡ Value v (at + length (shortest v))
+pub number-there : (t r : List ℕ) (at v : ℕ) → at ≤ length t → drop at t ≡ shortest v ++ r → v ≤ 4294967295 → number_at t at ≡ got v (at + length (shortest v))
 number-there t r at v i e h =
     let l : length (take at t) ≡ at = length-take-le at t i in
     let w : take at t ++ (shortest v ++ r) ≡ t = rw (← e) (take-append-drop at t) in
@@ -100,7 +102,7 @@ module _ {o : List ℕ} {at q : ℕ} (r : Stands o at q) where
       let l : length (shortened o) - q ≡ 0 = simp length-drop at (ap length e) in
       (omega (arith, r.within), r.same (length (shortened o)) r.within ∙ place_none r.left o at q (length (shortened o)) h)
 
-  module _ {v next : ℕ} (e : padded_at o at ≡ Value v next) where
+  module _ {v next : ℕ} (e : padded_at o at ≡ got v next) where
     pub over : Left o at v next r.left
     over = left_over o at v next r.left e r.enough
 
@@ -113,7 +115,7 @@ module _ {o : List ℕ} {at q : ℕ} (r : Stands o at q) where
         simp (length-drop, length-append) at (ap length spelled-there) in
         omega (arith, r.within, (shortest-long v).0)
 
-    pub stands-number : number_at (shortened o) q ≡ Value v (q + length (shortest v))
+    pub stands-number : number_at (shortened o) q ≡ got v (q + length (shortest v))
     stands-number = number-there (shortened o) _ q v r.within spelled-there (padded-bounds o at e).small
 
     pub stands-next : Stands o next (q + length (shortest v))
@@ -156,19 +158,19 @@ module _ {o : List ℕ} where
       let e : original o (refused n q) ≡ refused n at = rw (i, j) (ap (refused n) (stands-place r)) in
       told e
 
-short-there : (t : List ℕ) (i : ℕ) → length t ≤ i → number_at t i ≡ Short
+short-there : (t : List ℕ) (i : ℕ) → length t ≤ i → number_at t i ≡ Err Short
 unfolding number_at groups
 short-there t i h = simp (le-leb (length t) i h)
 
 -- the numbers at one place
-number-as : (o : List ℕ) {at q : ℕ} → Stands o at q → (x y : Number) → padded_at o at ≡ y → Pair x y
+number-as : (o : List ℕ) {at q : ℕ} → Stands o at q → (x y : Result Number Trouble) → padded_at o at ≡ y → Pair x y
     → Goes o (found_number o at x) (number_in (shortened o) q)
 unfolding number_in original
 number-as o r _ _ f plain = rw (stands-number r f) (same (stands-next r f))
 number-as o r _ _ f three = stopped
 number-as o {at} {q} r _ _ f cut =
-    let (l, z) = stands-none r (none-as short (sym f)) in
-    let i : number_at (shortened o) q ≡ Short = short-there (shortened o) q (omega arith) in
+    let (l, z) = stands-none r (none-as trouble (sym f)) in
+    let i : number_at (shortened o) q ≡ Err Short = short-there (shortened o) q (omega arith) in
     let k : no_number o (last_place o) (padded_at o (last_place o)) ≡ refused 2 (length o) = rw (z, f) in
     rw i (told k)
 

@@ -4,16 +4,19 @@ use native.Mathlib.Omega.{arith}
 use native.Mathlib.Decide.{dec_lt}
 use native.Mathlib.Nat.{add-zero, zero-add}
 use mathlib.Core.Path.{◌≡◌, refl, sym, ap, ◌∙◌}
-use mathlib.Core.Bool.{Bool, true, false, cond, ◌||◌}
+use mathlib.Core.Bool.{Bool, true, false, ◌||◌}
 use mathlib.Core.List.{List, [], ◌∷◌, ◌++◌, append_assoc, append-nil}
-use Prim.Native.Nat.{ℕ, zero, suc, ◌+◌, ◌-◌, ◌≤◌, ◌<◌}
+use Prim.Native.Nat.{ℕ, ◌+◌, ◌-◌}
 use lib.Dec.{eqb, ltb}
 use lib.ListN.{length, length-append}
-use Rattle.numbers.specs.Shortest.{shortest}
+use Rattle.std.specs.Prelude.{Result, Ok, Err}
 use Rattle.numbers.specs.declared.Number.{Number}
-use Rattle.numbers.specs.declared.Number.TheVariants.{Value, Short, Bad}
+use Rattle.numbers.specs.declared.Trouble.{Trouble}
+use Rattle.numbers.specs.declared.Trouble.TheVariants.{Short, Bad}
+use Rattle.numbers.specs.Number.{got}
+use Rattle.numbers.specs.Shortest.{shortest}
 use Rattle.plan.specs.Agree.{Asked, in_bytes, asked_own, beyond, span_of, asked_in, asked_all, asked, agrees_with, judged}
-use Rattle.plan.specs.Found.{Found, refused, found, and_then}
+use Rattle.plan.specs.Found.{Found, refused, found}
 use Rattle.plan.specs.Read.{read_any, read_plan}
 use Rattle.plan.specs.Spell as spells
 use Rattle.plan.specs.Spell.{spell, exchange_numbers, own_numbers, gaps_of, gap, act_numbers, acts_numbers, plan_numbers, spelling}
@@ -25,7 +28,7 @@ use Rattle.plan.proofs.Finds.{cond-case}
 use Rattle.plan.proofs.RowsAsked.{span-bytes}
 use Rattle.plan.proofs.Spelled.{any-is-spelled}
 use Rattle.plan.proofs.Stands.{spell-append, plan-stands}
-use Rattle.mend.specs.Padded.{padded_at, numbers_from, numbers_of, shortened, cut_from, groups_cut, place_of, last_place, no_number, ended, original, read_padded}
+use Rattle.mend.specs.Padded.{padded_at, numbers_from, numbers_of, shortened, cut_from, groups_cut, place_of, last_place, no_number, original, read_padded}
 use Rattle.mend.proofs.Alike.{Stands, stands-start, start_left, stands-place, over, stands-next, stands-left, Ends, any-ends}
 use Rattle.mend.proofs.Alike as alike
 use Rattle.mend.proofs.Numbers.{numbers-small, spell-same}
@@ -40,7 +43,7 @@ use Rattle.mend.proofs.RunReturns.{numbers-none, numbers-some}
 record Uncut (o : List ℕ) {at q : ℕ} (r : Stands o at q) (v : ℕ) (ms : List ℕ) : Type 0 where
   value : ℕ
   next : ℕ
-  first : padded_at o at ≡ Value value next
+  first : padded_at o at ≡ got value next
   same : value ≡ v
   ends : next ≡ at + length (shortest value)
   rest : numbers_from (over r first).rest o next ≡ ms
@@ -226,10 +229,10 @@ record Refusal (x : Found Plan) : Type 0 where
 is-refusal : (number place : ℕ) → Refusal (refused number place)
 is-refusal n p = record { number = n; place = p; is = refl }
 
-no-number-refused : (s : List ℕ) (at : ℕ) (n : Number) → Refusal (no_number s at n)
-no-number-refused s at Bad = is-refusal 3 at
-no-number-refused s at Short = is-refusal 2 (length s)
-no-number-refused s at (Value v q) = is-refusal 2 (length s)
+no-number-refused : (s : List ℕ) (at : ℕ) (n : Result Number Trouble) → Refusal (no_number s at n)
+no-number-refused s at (Err Bad) = is-refusal 3 at
+no-number-refused s at (Err Short) = is-refusal 2 (length s)
+no-number-refused s at (Ok r) = is-refusal 2 (length s)
 
 original-refused : (o : List ℕ) (n q : ℕ) → Refusal (original o (refused n q))
 unfolding original

@@ -8,5 +8,4 @@ pub mod Numbers
 pub mod Kept
 pub mod MendReturns
 pub mod Request11
-mod CopyReturns
 mod Examples

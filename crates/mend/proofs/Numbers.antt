@@ -3,13 +3,14 @@ use native.Mathlib.Omega.{arith}
 use native.Mathlib.Decide.{dec_lt}
 use mathlib.Core.Path.{◌≡◌, refl, sym, ap, ◌∙◌}
 use mathlib.Core.List.{List, [], ◌∷◌, ◌++◌}
-use Prim.Native.Nat.{ℕ, zero, suc, ◌+◌, ◌-◌, ◌*◌, ◌/◌, ◌%◌, ◌≤◌, ◌<◌}
+use Prim.Native.Nat.{ℕ, zero, suc, ◌+◌, ◌-◌, ◌/◌, ◌%◌, ◌≤◌, ◌<◌}
 use lib.ListN.{length, drop, length-append, length-drop}
 use lib.Seq.{drop-drop, drop-append_seam}
-use Rattle.numbers.specs.Number.{number_at}
-use Rattle.numbers.specs.Shortest.{spelled, shortest}
+use Rattle.std.specs.Prelude.{Result}
 use Rattle.numbers.specs.declared.Number.{Number}
-use Rattle.numbers.specs.declared.Number.TheVariants.{Value, Short, Bad}
+use Rattle.numbers.specs.declared.Trouble.{Trouble}
+use Rattle.numbers.specs.Number.{got, number_at}
+use Rattle.numbers.specs.Shortest.{spelled, shortest}
 use Rattle.numbers.proofs.Laws.{shortest-long, spelled-last, spelled-more, values}
 use Rattle.plan.specs.Spell.{spell}
 use Rattle.mend.specs.Padded.{padded_at, numbers_from}
@@ -32,7 +33,7 @@ unfolding numbers_from
 numbers-small zero s at = none-small
 numbers-small (suc k) s at = small-view k s at (view s at) (numbers-small k s)
 
-pub value-padded : {v next : ℕ} (x y : Number) → x ≡ Value v next → Pair x y → y ≡ Value v next
+pub value-padded : {v next : ℕ} (x y : Result Number Trouble) → x ≡ got v next → Pair x y → y ≡ got v next
 value-padded _ _ e plain = e
 value-padded _ _ e cut = let z : ◌≡◌ {A = ℕ} 0 1 = cc in absurd (omega arith)
 value-padded _ _ e three = let z : ◌≡◌ {A = ℕ} 0 1 = cc in absurd (omega arith)

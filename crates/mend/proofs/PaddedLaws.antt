@@ -3,43 +3,28 @@ use borrow.Author.Tests.{ltb-true, ltb-false, leb-false}
 use native.Mathlib.Omega.{arith}
 use native.Mathlib.Nat.{mul-le-mul_right}
 use native.Mathlib.Decide.{dec_lt}
-use mathlib.Core.Path.{◌≡◌, refl, sym, ◌∙◌}
-use mathlib.Core.Bool.{Bool, true, false, cond}
+use mathlib.Core.Path.{◌≡◌, sym}
 use mathlib.Core.List.{List}
 use Prim.Native.Nat.{ℕ, zero, suc, ◌+◌, ◌-◌, ◌*◌, ◌/◌, ◌%◌, ◌≤◌, ◌<◌}
 use lib.ListN.{length, get_or}
 use lib.Dec.{ltb, leb}
+use Rattle.std.specs.Prelude.{Err}
+use Rattle.numbers.specs.declared.Trouble.TheVariants.{Short}
+use Rattle.numbers.specs.Number.{got}
 use Rattle.numbers.specs.Shortest.{spelled, shortest}
-use Rattle.numbers.specs.declared.Number.TheVariants.{Value, Short, Bad}
+use Rattle.numbers.proofs.Groups.{cond-elim, no_short, no-bad, value_of, next_of}
 use Rattle.numbers.proofs.Laws.{spelled-last, spelled-more, values}
 use Rattle.mend.specs.Padded.{groups_at, padded_at}
 use Rattle.mend.proofs.PaddedReads.{groups-short}
-
--- the arm that a conditional took
-pub cond-elim : {A P : Type 0} (t : Bool) {a b x : A} → cond t a b ≡ x → (t ≡ true → a ≡ x → P) → (t ≡ false → b ≡ x → P) → P
-cond-elim true e f g = f refl e
-cond-elim false e f g = g refl e
-
-pub no_short : {P : Type 0} {v next : ℕ} → Short ≡ Value v next → P
-no_short e = let z : ◌≡◌ {A = ℕ} 0 1 = cc in absurd (omega arith)
-
-pub no-bad : {P : Type 0} {v next : ℕ} → Bad ≡ Value v next → P
-no-bad e = let z : ◌≡◌ {A = ℕ} 0 1 = cc in absurd (omega arith)
-
-pub value_of : {v w m n : ℕ} → Value v m ≡ Value w n → v ≡ w
-value_of e = cc
-
-pub next_of : {v w m n : ℕ} → Value v m ≡ Value w n → m ≡ n
-next_of e = cc
 
 -- What the first group of a padded number that is read tells, where k groups may follow it.
 pub data Group (k : ℕ) (s : List ℕ) (at scale sum v next : ℕ) : Type 0 where
   last : at < length s → get_or s at 0 < 128 → sum + get_or s at 0 % 128 * scale ≤ 4294967295 → v ≡ sum + get_or s at 0 % 128 * scale → next ≡ at + 1
       → Group k s at scale sum v next
   more : at < length s → 128 ≤ get_or s at 0 → sum + get_or s at 0 % 128 * scale ≤ 4294967295
-      → groups_at k s (at + 1) (scale * 128) (sum + get_or s at 0 % 128 * scale) ≡ Value v next → Group k s at scale sum v next
+      → groups_at k s (at + 1) (scale * 128) (sum + get_or s at 0 % 128 * scale) ≡ got v next → Group k s at scale sum v next
 
-pub group : (k : ℕ) (s : List ℕ) (at scale sum : ℕ) {v next : ℕ} → groups_at (suc k) s at scale sum ≡ Value v next → Group k s at scale sum v next
+pub group : (k : ℕ) (s : List ℕ) (at scale sum : ℕ) {v next : ℕ} → groups_at (suc k) s at scale sum ≡ got v next → Group k s at scale sum v next
 unfolding groups_at
 group k s at scale sum e =
     cond-elim (leb (length s) at) e (λ t f. no_short f)
@@ -59,7 +44,7 @@ pub next-below : (sum b scale : ℕ) → sum < scale → sum + b % 128 * scale <
 next-below sum b scale h = let m : b % 128 * scale ≤ 127 * scale = mul-le-mul_right scale (omega arith) in omega arith
 
 group-bounds : (k : ℕ) (s : List ℕ) (at i sum : ℕ) {v next : ℕ} → sum < values i → Group k s at (values i) sum v next
-    → (groups_at k s (at + 1) (values (suc i)) (sum + get_or s at 0 % 128 * values i) ≡ Value v next → Bounds s (at + 1) (suc i) v next)
+    → (groups_at k s (at + 1) (values (suc i)) (sum + get_or s at 0 % 128 * values i) ≡ got v next → Bounds s (at + 1) (suc i) v next)
     → Bounds s at i v next
 unfolding values
 group-bounds k s at i sum h (last w b f q n) rest =
@@ -75,7 +60,7 @@ group-bounds k s at i sum {v} {next} h (more w b f e) rest =
     let z : suc i + (next - (at + 1)) ≡ i + (next - at) = omega (arith, r.forward) in
     record { forward = omega (arith, r.forward); inside = r.inside; small = r.small; width = rw z at r.width }
 
-groups-bounds : (left : ℕ) (s : List ℕ) (at i sum : ℕ) {v next : ℕ} → sum < values i → groups_at left s at (values i) sum ≡ Value v next
+groups-bounds : (left : ℕ) (s : List ℕ) (at i sum : ℕ) {v next : ℕ} → sum < values i → groups_at left s at (values i) sum ≡ got v next
     → Bounds s at i v next
 unfolding groups_at values
 groups-bounds zero s at i sum h e = no-bad e
@@ -105,7 +90,7 @@ pub record PaddedBounds (s : List ℕ) (at v next : ℕ) : Type 0 where
   pub small : v ≤ 4294967295
   pub long : at + length (shortest v) ≤ next
 
-pub padded-bounds : (s : List ℕ) (at : ℕ) {v next : ℕ} → padded_at s at ≡ Value v next → PaddedBounds s at v next
+pub padded-bounds : (s : List ℕ) (at : ℕ) {v next : ℕ} → padded_at s at ≡ got v next → PaddedBounds s at v next
 unfolding padded_at values shortest
 padded-bounds s at {v} {next} e =
     let b = groups-bounds 10 s at 0 0 (omega arith) e in
@@ -117,6 +102,6 @@ padded-bounds s at {v} {next} e =
       long = omega (arith, b.forward, spelled-fits 5 (next - at - 1) v (rw z at b.width));
     }
 
-pub padded-end : (s : List ℕ) (at : ℕ) → length s ≤ at → padded_at s at ≡ Short
+pub padded-end : (s : List ℕ) (at : ℕ) → length s ≤ at → padded_at s at ≡ Err Short
 unfolding padded_at
 padded-end s at h = groups-short 9 s at 1 0 h

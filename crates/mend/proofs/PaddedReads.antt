@@ -2,28 +2,29 @@
 use borrow.Author.Tests.{le-ltb, lt-ltb, le-leb, lt-leb}
 use native.Mathlib.Omega.{arith}
 use native.Mathlib.Nat.{mul-le-mul, zero-mul}
-use native.Mathlib.Numerals.{sub-one}
 use native.Mathlib.Decide.{dec_lt}
 use mathlib.Core.Path.{◌≡◌, refl, sym, ◌∙◌}
 use mathlib.Core.List.{List}
 use Prim.Native.Nat.{ℕ, zero, suc, ◌+◌, ◌-◌, ◌*◌, ◌%◌, ◌≤◌, ◌<◌}
 use lib.ListN.{length, get_or}
-use Rattle.numbers.specs.declared.Number.TheVariants.{Value, Short, Bad}
+use Rattle.std.specs.Prelude.{Err}
+use Rattle.numbers.specs.declared.Trouble.TheVariants.{Short, Bad}
+use Rattle.numbers.specs.Number.{got}
 use Rattle.mend.specs.Fits.{scale_after}
 use Rattle.mend.specs.Padded.{groups_at, padded_at}
 
 -- what one group makes of a number
 module _ (k : ℕ) (s : List ℕ) (at scale sum : ℕ) where
-  pub groups-short : length s ≤ at → groups_at (suc k) s at scale sum ≡ Short
+  pub groups-short : length s ≤ at → groups_at (suc k) s at scale sum ≡ Err Short
   unfolding groups_at
   groups-short h = simp (le-leb _ _ h)
 
   module _ (b : ℕ) (w : at < length s) (e : get_or s at 0 ≡ b) where
-    pub groups-large : 4294967295 < sum + b % 128 * scale → groups_at (suc k) s at scale sum ≡ Bad
+    pub groups-large : 4294967295 < sum + b % 128 * scale → groups_at (suc k) s at scale sum ≡ Err Bad
     unfolding groups_at
     groups-large h = simp (e, lt-leb _ _ w, lt-ltb _ _ h)
 
-    pub groups-last : sum + b % 128 * scale ≤ 4294967295 → b < 128 → groups_at (suc k) s at scale sum ≡ Value (sum + b % 128 * scale) (at + 1)
+    pub groups-last : sum + b % 128 * scale ≤ 4294967295 → b < 128 → groups_at (suc k) s at scale sum ≡ got (sum + b % 128 * scale) (at + 1)
     unfolding groups_at
     groups-last fit h = simp (e, lt-leb _ _ w, le-ltb _ _ fit, lt-ltb _ _ h)
 
@@ -80,51 +81,49 @@ group-small : (b scale : ℕ) → scale ≤ 4398046511104 → b % 128 * scale �
 group-small b scale h = let g : b % 128 ≤ 127 = omega arith in mul-le-mul g h
 
 -- `padded_at`: what is to be read is what the groups left make of what was read
-pub record Reads (s : List ℕ) (at left p scale sum : ℕ) : Type 0 where
+pub record Reads (s : List ℕ) (at i p scale sum : ℕ) : Type 0 where
+  pub left : ℕ
+  pub ten : left + i ≡ 10
   pub same : padded_at s at ≡ groups_at left s p scale sum
   pub fits : scale ≤ 4398046511104
   pub small : sum ≤ 4294967295
 
-pub reads-starts : (s : List ℕ) (at : ℕ) → Reads s at 10 at 1 0
+pub reads-starts : (s : List ℕ) (at : ℕ) → Reads s at 0 at 1 0
 unfolding padded_at
-reads-starts s at = record { same = refl; fits = omega arith; small = omega arith }
+reads-starts s at = record { left = 10; ten = refl; same = refl; fits = omega arith; small = omega arith }
 
-groups-pos : (left : ℕ) (s : List ℕ) (p scale sum : ℕ) → 0 < left → groups_at left s p scale sum ≡ groups_at (suc (left - 1)) s p scale sum
-groups-pos zero s p scale sum h = absurd (omega arith)
-groups-pos (suc k) s p scale sum h = rw (sub-one (suc k))
-
-none_left : (left : ℕ) (s : List ℕ) (p scale sum : ℕ) → left ≤ 0 → groups_at left s p scale sum ≡ Bad
-unfolding groups_at
-none_left zero s p scale sum h = refl
-none_left (suc k) s p scale sum h = absurd (omega arith)
-
-module _ {s : List ℕ} {at left p scale sum : ℕ} (r : Reads s at left p scale sum) where
-  pub reads_none : left ≤ 0 → Bad ≡ padded_at s at
-  reads_none h = sym (r.same ∙ none_left left s p scale sum h)
+module _ {s : List ℕ} {at i p scale sum : ℕ} (r : Reads s at i p scale sum) where
+  pub reads_none : 10 ≤ i → Err Bad ≡ padded_at s at
+  unfolding groups_at
+  reads_none h = let z : r.left ≡ 0 = omega (arith, r.ten) in sym (rw z at r.same)
 
   pub reads-group : (b : ℕ) → (b % 128 * scale ≤ 558551906910208) × (sum + b % 128 * scale ≤ 558556201877503)
   reads-group b = let g = group-small b scale r.fits in (g, omega (arith, r.small))
 
-  module _ (pos : 0 < left) where
-    one_more : padded_at s at ≡ groups_at (suc (left - 1)) s p scale sum
-    one_more = r.same ∙ groups-pos left s p scale sum pos
+  module _ (more : i < 10) where
+    one_more : padded_at s at ≡ groups_at (suc (9 - i)) s p scale sum
+    one_more = let z : r.left ≡ suc (9 - i) = omega (arith, r.ten) in rw z at r.same
 
-    pub reads_short : length s ≤ p → Short ≡ padded_at s at
-    reads_short h = sym (one_more ∙ groups-short (left - 1) s p scale sum h)
+    pub reads_short : length s ≤ p → Err Short ≡ padded_at s at
+    reads_short h = sym (one_more ∙ groups-short (9 - i) s p scale sum h)
 
     module _ {b : ℕ} (e : b ≡ get_or s p 0) (within : p < length s) where
-      pub reads-large : 4294967295 < sum + b % 128 * scale → Bad ≡ padded_at s at
-      reads-large h = sym (one_more ∙ groups-large (left - 1) s p scale sum b within (sym e) h)
+      pub reads-large : 4294967295 < sum + b % 128 * scale → Err Bad ≡ padded_at s at
+      reads-large h = sym (one_more ∙ groups-large (9 - i) s p scale sum b within (sym e) h)
 
       module _ (fit : sum + b % 128 * scale ≤ 4294967295) where
-        pub reads-last : b < 128 → Value (sum + b % 128 * scale) (p + 1) ≡ padded_at s at
-        reads-last h = sym (one_more ∙ groups-last (left - 1) s p scale sum b within (sym e) fit h)
+        pub reads-last : b < 128 → got (sum + b % 128 * scale) (p + 1) ≡ padded_at s at
+        reads-last h = sym (one_more ∙ groups-last (9 - i) s p scale sum b within (sym e) fit h)
 
-        pub reads-again : 128 ≤ b → {next : ℕ} → next ≡ scale_after scale → Reads s at (left - 1) (p + 1) next (sum + b % 128 * scale)
+        pub reads-again : 128 ≤ b → {next : ℕ} → next ≡ scale_after scale → Reads s at (i + 1) (p + 1) next (sum + b % 128 * scale)
         reads-again h {next} f = record {
+          left = 9 - i;
+          ten = omega arith;
           same =
-              one_more ∙ groups-more (left - 1) s p scale sum b within (sym e) fit h
-              ∙ scale-after (left - 1) s (p + 1) scale (sum + b % 128 * scale) ∙ rw f;
+              one_more ∙ groups-more (9 - i) s p scale sum b within (sym e) fit h
+              ∙ scale-after (9 - i) s (p + 1) scale (sum + b % 128 * scale) ∙ rw f;
           fits = rw f (scale_small scale r.fits);
           small = fit;
         }
+
+pub ruleset reading = (reads-starts, reads-group, reads-again)

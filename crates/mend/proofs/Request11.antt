@@ -5,15 +5,10 @@ use native.Mathlib.Decide.{dec_lt}
 use mathlib.Core.Path.{◌≡◌, refl, sym, ap, ◌∙◌}
 use mathlib.Core.Bool.{true}
 use mathlib.Core.Logic.{◌↔◌}
-use mathlib.Core.List.{List, [], ◌∷◌, ◌++◌}
-use Prim.Native.Nat.{ℕ, zero, suc, ◌+◌, ◌-◌, ◌*◌, ◌/◌, ◌%◌, ◌≤◌, ◌<◌}
-use lib.ListN.{length, drop, length-append, length-drop}
-use lib.Seq.{drop-drop, drop-append_seam}
-use Rattle.numbers.specs.Number.{number_at}
-use Rattle.numbers.specs.Shortest.{Bytes, spelled, shortest}
-use Rattle.numbers.specs.declared.Number.{Number}
-use Rattle.numbers.specs.declared.Number.TheVariants.{Value, Short, Bad}
-use Rattle.numbers.proofs.Laws.{shortest-long, spelled-last, spelled-more, values}
+use mathlib.Core.List.{List}
+use Prim.Native.Nat.{ℕ, ◌+◌, ◌≤◌}
+use lib.ListN.{length}
+use Rattle.numbers.specs.Shortest.{Bytes}
 use Rattle.plan.specs.Found.{Found, refused, found}
 use Rattle.plan.specs.Read.{read_plan}
 use Rattle.plan.specs.Spell.{spell, plan_numbers, spelling}
@@ -24,14 +19,11 @@ use Rattle.plan.proofs.Agreeing.{accepted-agrees, spelled-is-accepted}
 use Rattle.plan.proofs.Limits.{accepted-is-within}
 use Rattle.plan.proofs.Spelled.{accepted-length, accepted-is-spelled}
 use Rattle.mend.specs.Outcome.{put_answer, put_buffer, answer_of, buffer_of}
-use Rattle.mend.specs.Padded.{padded_at, numbers_from, numbers_of, shortened, groups_cut, last_place, original, read_padded}
-use Rattle.mend.specs.declared.Answer.{Answer}
+use Rattle.mend.specs.Padded.{numbers_of, shortened, groups_cut, last_place, original, read_padded}
 use Rattle.mend.proofs.Kept.{PlainKept, three, keeps, plain-kept}
 use Rattle.mend.proofs.Numbers.{numbers-small, numbers-back, spell-same}
 use Rattle.mend.proofs.MendReturns.{WholePlan, original-found, whole-spelled, whole-cut, padded-is, no-plan}
-use Rattle.mend.proofs.PaddedLaws.{padded-bounds}
-use Rattle.mend.proofs.RunLaws.{View, none, one, view, spell-bytes, last-place, last-inside}
-use Rattle.mend.proofs.RunReturns.{end_none, numbers-none, numbers-some, Left, left_over}
+use Rattle.mend.proofs.RunLaws.{spell-bytes, last-inside}
 
 -- what mends is a padded plan
 mended : (s : List ℕ) {p : Plan} {next : ℕ} → read_padded s ≡ found p next → WholePlan s p

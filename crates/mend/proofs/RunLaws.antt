@@ -2,28 +2,29 @@
 use native.Mathlib.Omega.{arith}
 use native.Mathlib.Decide.{dec_lt}
 use native.Mathlib.Nat.{zero-add}
-use mathlib.Core.Path.{◌≡◌, refl, sym, ap, ◌∙◌}
+use mathlib.Core.Path.{◌≡◌, refl, sym, ◌∙◌}
 use mathlib.Core.List.{List, [], ◌∷◌, ◌++◌}
 use Prim.Native.Nat.{ℕ, zero, suc, ◌+◌, ◌-◌, ◌≤◌, ◌<◌}
-use lib.ListN.{length, get_or}
-use Rattle.numbers.specs.Shortest.{Bytes, shortest}
+use lib.ListN.{length}
+use Rattle.std.specs.Prelude.{Result, Ok, Err}
 use Rattle.numbers.specs.declared.Number.{Number}
-use Rattle.numbers.specs.declared.Number.TheVariants.{Value, Short, Bad}
+use Rattle.numbers.specs.declared.Trouble.{Trouble}
+use Rattle.numbers.specs.Number.{got}
+use Rattle.numbers.specs.Shortest.{Bytes, shortest}
 use Rattle.numbers.proofs.Laws.{bytes-nil, bytes-cons, shortest-bytes, shortest-long}
 use Rattle.plan.specs.Spell.{spell}
-use Rattle.mend.specs.Padded.{padded_at, by_number, numbers_from, numbers_of, shortened, cut_from, groups_cut, place_from, place_of, last_place}
+use Rattle.mend.specs.Padded.{padded_at, numbers_from, numbers_of, shortened, cut_from, groups_cut, place_from, place_of, last_place}
 use Rattle.mend.proofs.PaddedLaws.{padded-bounds}
-use Rattle.mend.proofs.RunReturns.{None, short, bad, none-as, no_more, numbers-none, long-some, place_none, place-there, place-further}
+use Rattle.mend.proofs.RunReturns.{None, trouble, none-as, no_more, numbers-none, long-some, place_none, place-there, place-further}
 
 -- what stands at `at`
 pub data View (s : List ℕ) (at : ℕ) : Type 0 where
   none : None (padded_at s at) → View s at
-  one : (v next : ℕ) → padded_at s at ≡ Value v next → View s at
+  one : (v next : ℕ) → padded_at s at ≡ got v next → View s at
 
-view_of : (s : List ℕ) (at : ℕ) (n : Number) → padded_at s at ≡ n → View s at
-view_of s at Short e = none (none-as short (sym e))
-view_of s at Bad e = none (none-as bad (sym e))
-view_of s at (Value v next) e = one v next e
+view_of : (s : List ℕ) (at : ℕ) (n : Result Number Trouble) → padded_at s at ≡ n → View s at
+view_of s at (Err t) e = none (none-as trouble (sym e))
+view_of s at (Ok r) e = one r.value r.next e
 
 pub view : (s : List ℕ) (at : ℕ) → View s at
 view s at = view_of s at (padded_at s at) refl
@@ -41,7 +42,7 @@ unfolding cut_from
 cut-none zero s at h = refl
 cut-none (suc left) s at h = no_more 0 _ h
 
-pub cut-some : (left : ℕ) (s : List ℕ) (at : ℕ) {v next : ℕ} → padded_at s at ≡ Value v next
+pub cut-some : (left : ℕ) (s : List ℕ) (at : ℕ) {v next : ℕ} → padded_at s at ≡ got v next
     → cut_from (suc left) s at ≡ next - at - length (shortest v) + cut_from left s next
 unfolding cut_from
 cut-some left s at e = rw e

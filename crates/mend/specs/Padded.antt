@@ -1,9 +1,11 @@
 -- Meaning: what a padded plan is: document 02, request 11, "Some partners pad numbers with zero groups". Assumes nothing: these are definitions.
 -- s are the bytes and `at` is a place in them.
-use Rattle.std.specs.Prelude.{ℕ, zero, suc, ◌+◌, ◌-◌, ◌*◌, ◌%◌, cond, ◌||◌, List, [], ◌∷◌, length, get_or, ltb, leb, eqb}
+use Rattle.std.specs.Prelude.{ℕ, zero, suc, ◌+◌, ◌-◌, ◌*◌, ◌%◌, cond, ◌||◌, List, [], ◌∷◌, length, get_or, ltb, leb, eqb, Result, Ok, Err}
 use Rattle.numbers.specs.Shortest.{shortest}
 use Rattle.numbers.specs.declared.Number.{Number}
-use Rattle.numbers.specs.declared.Number.TheVariants.{Value, Short, Bad}
+use Rattle.numbers.specs.declared.Trouble.{Trouble}
+use Rattle.numbers.specs.declared.Trouble.TheVariants.{Short, Bad}
+use Rattle.numbers.specs.Number.{got}
 use Rattle.plan.specs.Found.{Found, refused, found}
 use Rattle.plan.specs.Read.{read_plan}
 use Rattle.plan.specs.Spell.{spell}
@@ -12,23 +14,22 @@ use Rattle.plan.specs.Tree.{Plan}
 -- A padded number: its groups are those of document 01, but it may end in zero groups beyond its shortest form. This is what the groups from `at` on
 -- make of a number whose groups before make `sum`, whose next group counts `scale`, and that has `left` groups left.
 -- "a number still too large, or with an eleventh group, is 3", also where the bytes end there: both are Bad before the length is asked for again.
-unfoldable pub groups_at : (left : ℕ) → List ℕ → (at scale sum : ℕ) → Number
-groups_at zero s at scale sum = Bad
+unfoldable pub groups_at : (left : ℕ) → List ℕ → (at scale sum : ℕ) → Result Number Trouble
+groups_at zero s at scale sum = Err Bad
 groups_at (suc left) s at scale sum =
-    cond (leb (length s) at) Short
-    (cond (ltb 4294967295 (sum + get_or s at 0 % 128 * scale)) Bad
-    (cond (ltb (get_or s at 0) 128) (Value (sum + get_or s at 0 % 128 * scale) (at + 1))
+    cond (leb (length s) at) (Err Short)
+    (cond (ltb 4294967295 (sum + get_or s at 0 % 128 * scale)) (Err Bad)
+    (cond (ltb (get_or s at 0) 128) (got (sum + get_or s at 0 % 128 * scale) (at + 1))
     (groups_at left s (at + 1) (scale * 128) (sum + get_or s at 0 % 128 * scale))))
 
 -- the padded number that starts at `at`: up to ten groups
-unfoldable pub padded_at : List ℕ → (at : ℕ) → Number
+unfoldable pub padded_at : List ℕ → (at : ℕ) → Result Number Trouble
 padded_at s at = groups_at 10 s at 1 0
 
 -- what comes of a number that is one, and of what is none
-abbrev pub by_number : {A : Type 0} → Number → A → ((value next : ℕ) → A) → A
-by_number (Value value next) none one = one value next
-by_number Short none one = none
-by_number Bad none one = none
+abbrev pub by_number : {A : Type 0} → Result Number Trouble → A → ((value next : ℕ) → A) → A
+by_number (Ok r) none one = one r.value r.next
+by_number (Err e) none one = none
 
 -- A padded plan is padded numbers one after the other: every byte of a plan is part of a number. These are the values of those that stand from `at`
 -- on, up to the end of the bytes or to the first that is none. Each has a byte or more, so that there are no more of them than bytes: `left`.
@@ -65,10 +66,10 @@ unfoldable pub last_place : List ℕ → ℕ
 last_place s = place_of s (length (shortened s))
 
 -- where a number is wanted at `at` and there is none: 3 at that number, or 2 at the length
-abbrev pub no_number : List ℕ → (at : ℕ) → Number → Found Plan
-no_number s at Bad = refused 3 at
-no_number s at Short = refused 2 (length s)
-no_number s at (Value value next) = refused 2 (length s)
+abbrev pub no_number : List ℕ → (at : ℕ) → Result Number Trouble → Found Plan
+no_number s at (Err Bad) = refused 3 at
+no_number s at (Err Short) = refused 2 (length s)
+no_number s at (Ok r) = refused 2 (length s)
 
 -- where the plan has ended at `at`: 9 at the first byte after it, whatever these bytes are
 abbrev pub ended : List ℕ → (at : ℕ) → Found Plan → Found Plan

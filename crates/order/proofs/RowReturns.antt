@@ -1,58 +1,15 @@
 -- The returns of the functions on the rows of a plan's table. Assumes nothing.
 use mathlib.Core.Path.{◌≡◌, ◌∙◌}
-use mathlib.Core.Bool.{Bool, true, false}
+use mathlib.Core.Bool.{Bool, false}
 use mathlib.Core.List.{List}
-use Prim.Native.Nat.{ℕ, ◌+◌, ◌*◌, ◌-◌, ◌<◌, ◌≤◌}
+use Prim.Native.Nat.{ℕ, ◌+◌, ◌-◌, ◌≤◌}
 use native.Mathlib.Omega.{arith}
-use borrow.Author.Tests.{ne_eqb, lt-ltb, le-ltb}
-use lib.Dec.{eqb}
-use lib.ListN.{get_or}
 use Rattle.plan.specs.Tree.{more, size, sizes}
 use Rattle.order.specs.declared.Spot.{Spot}
-use Rattle.order.specs.Answering.{scope_kind, undo_kind, Made, scope_act, PartsCount, NumberAt, SpotAt}
+use Rattle.order.specs.Answering.{Made, scope_act, PartsCount, SpotAt}
 use Rattle.order.specs.Begin.{part, part_at}
 use Rattle.order.specs.Stands.{End, Stands}
 use Rattle.order.proofs.Standing.{size-pos, stands-inside, stands-end, first-at, general-is, scope-numbers, scope-counted, has-general}
-
--- `is_scope`, `has_undo`
-module _ (n : ℕ) where
-  pub kind-scope : n ≡ 11 → true ≡ scope_kind n
-  unfolding scope_kind
-  kind-scope e = rw e
-
-  pub kind-open : n ≡ 12 → true ≡ scope_kind n
-  unfolding scope_kind
-  kind-open e = rw e
-
-  pub kind-other : (n ≡ 11 → ⊥) → (n ≡ 12 → ⊥) → eqb n 14 ≡ scope_kind n
-  unfolding scope_kind
-  kind-other e f = rw (ne_eqb n 11 e, ne_eqb n 12 f)
-
-  pub undo-scope : n ≡ 11 → true ≡ undo_kind n
-  unfolding undo_kind
-  undo-scope e = rw e
-
-  pub undo-other : (n ≡ 11 → ⊥) → eqb n 14 ≡ undo_kind n
-  unfolding undo_kind
-  undo-other e = rw (ne_eqb n 11 e)
-
--- `number_at`
-module _ (t : List ℕ) (k i : ℕ) where
-  pub number-far : {r : ℕ} → 256 ≤ k → NumberAt t k i r
-  number-far h = record { is = λ a b. absurd (omega arith) }
-
-  pub number-none : {r : ℕ} → 8 ≤ i → NumberAt t k i r
-  number-none h = record { is = λ a b. absurd (omega arith) }
-
-  pub number-first : i < 2 → NumberAt t k i (get_or t (k * 13 + 1 + i) 0)
-  number-first h = record {
-    is = λ a b. let e : k * 13 + (1 + i) ≡ k * 13 + 1 + i = omega arith in rw (lt-ltb i 2 h, e);
-  }
-
-  pub number-other : 2 ≤ i → NumberAt t k i (get_or t (k * 13 + 4 + (i - 2)) 0)
-  number-other h = record {
-    is = λ a b. let e : k * 13 + (4 + (i - 2)) ≡ k * 13 + 4 + (i - 2) = omega arith in rw (le-ltb i 2 h, e);
-  }
 
 -- `spot_at`
 pub spot-far : (t : List ℕ) (k : ℕ) {z : Spot} → 256 ≤ k → SpotAt t k z

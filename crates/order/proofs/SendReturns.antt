@@ -1,34 +1,22 @@
 -- The returns of the functions that say whether a send would send. Assumes nothing.
-use mathlib.Core.Path.{◌≡◌, refl, sym, ap, ◌∙◌}
-use mathlib.Core.Bool.{Bool, true, false, cond, ◌&&◌}
-use mathlib.Core.List.{List, [], ◌∷◌, ◌++◌}
-use Prim.Native.Nat.{ℕ, zero, suc, ◌+◌, ◌*◌, ◌<◌, ◌≤◌}
+use mathlib.Core.Path.{◌≡◌, refl, sym, ◌∙◌}
+use mathlib.Core.Bool.{Bool, true, false, ◌&&◌}
+use mathlib.Core.List.{List}
+use Prim.Native.Nat.{ℕ, ◌+◌, ◌*◌, ◌<◌, ◌≤◌}
 use native.Mathlib.Numerals.{add-one}
 use native.Mathlib.Omega.{arith}
-use borrow.Author.Tests.{eq-eqb, ne_eqb, le-leb, lt-leb}
-use lib.Dec.{eqb, leb}
+use borrow.Author.Tests.{ne_eqb}
+use lib.Dec.{leb}
 use lib.ListN.{length, get_or, drop, drop_of_length-le, get_or-eq_default}
 use lib.Seq.{drop-cons}
 use Rattle.order.specs.declared.Order.{Order}
-use Rattle.order.specs.Answering.{CountOf, VariableOf, Tuple, Bindings, Values, BoundAt, ValueAt, TupleBound, AllBound, PartnerTo, Reaches, MaySend}
+use Rattle.order.specs.Answering.{CountOf, VariableOf, Tuple, Bindings, BoundAt, TupleBound, AllBound, PartnerTo, Reaches}
 use Rattle.order.specs.Lists.{every}
-use Rattle.order.specs.State.{is_bound, value_of}
+use Rattle.order.specs.State.{is_bound}
 
 -- `bound_at`, `value_at`
 beyond : {l m : List ℕ} (v : ℕ) → m ≡ l → length l ≡ 16 → 16 ≤ v → get_or m v 0 ≡ 0
 beyond {l} v e s h = rw e (let z : length l ≤ v = omega (arith, s) in get_or-eq_default l 0 z)
-
-pub bound-beyond : (l : List ℕ) (v : ℕ) → 16 ≤ v → BoundAt l v false
-bound-beyond l v h = record { is = λ o b. rw (beyond v b.same b.sixteen h) }
-
-pub bound-here : (l : List ℕ) (v : ℕ) → v < 16 → BoundAt l v (eqb (get_or l v 0) 1)
-bound-here l v h = record { is = λ o b. rw b.same }
-
-pub value-beyond : (l : List ℕ) (v : ℕ) → 16 ≤ v → ValueAt l v 0
-value-beyond l v h = record { is = λ o b. sym (beyond v b.same b.sixteen h) }
-
-pub value-here : (l : List ℕ) (v : ℕ) → v < 16 → ValueAt l v (get_or l v 0)
-value-here l v h = record { is = λ o b. rw b.same }
 
 -- the count of a row is that of the variables that it names
 tuple-count : {t : List ℕ} {k n : ℕ} {vs : List ℕ} → k < 256 → CountOf t k n → Tuple t k vs → n ≡ length vs
@@ -37,9 +25,6 @@ tuple-count h c m = c.is h (omega (arith, m.count, m.few)) ∙ m.count
 -- the loop of `tuple_bound`: those before are bound
 pub record Checking (t : List ℕ) (k : ℕ) (bound : List ℕ) (i : ℕ) : Type 0 where
   pub is : (o : Order) (vs : List ℕ) → Bindings o bound → Tuple t k vs → every (is_bound o) vs ≡ every (is_bound o) (drop i vs)
-
-pub checking-starts : (t : List ℕ) (k : ℕ) (bound : List ℕ) → Checking t k bound 0
-checking-starts t k bound = record { is = λ o vs b m. refl }
 
 module _ {t : List ℕ} {k : ℕ} {bound : List ℕ} {i n : ℕ} (z : k < 256) (w : Checking t k bound i) (c : CountOf t k n) where
   pub checking-done : n ≤ i → TupleBound t k bound true
@@ -83,22 +68,5 @@ module _ {t : List ℕ} {k : ℕ} {bound : List ℕ} (z : k < 256) where
 
 -- `partner_to`, `reaches`
 module _ (t : List ℕ) (k : ℕ) {values : List ℕ} where
-  pub partner-held : get_or t (k * 13) 0 ≡ 17 → {r : ℕ} → ValueAt values (get_or t (k * 13 + 8) 0) r → PartnerTo t k values r
-  partner-held h x = record { is = λ o b. rw h (x.is o b) }
-
-  pub partner-own : (get_or t (k * 13) 0 ≡ 17 → ⊥) → PartnerTo t k values (get_or t (k * 13 + 1) 0)
-  partner-own h = record { is = λ o b. rw (ne_eqb _ _ h) }
-
   pub reaches-held : get_or t (k * 13) 0 ≡ 17 → {r : ℕ} → PartnerTo t k values r → Reaches t k values (leb r 63)
   reaches-held h x = record { is = λ o b. rw (x.is o b, h) }
-
-  pub reaches-own : (get_or t (k * 13) 0 ≡ 17 → ⊥) → Reaches t k values true
-  reaches-own h = record { is = λ o b. rw (ne_eqb _ _ h) }
-
--- `may_send`
-module _ {t : List ℕ} {k : ℕ} {bound : List ℕ} (values : List ℕ) (z : k < 256) {b : Bool} (x : AllBound t k bound b) where
-  pub may-reach : b ≡ true → {r : Bool} → Reaches t k values r → MaySend t k bound values r
-  may-reach e y = record { is = λ o vs f g m. rw (sym (x.is o vs z f m) ∙ e) (y.is o g) }
-
-  pub may-not : b ≡ false → MaySend t k bound values false
-  may-not e = record { is = λ o vs f g m. rw (sym (x.is o vs z f m) ∙ e) }

@@ -1,5 +1,13 @@
-// The numbers of the faults, named as in the definitions (specs/Expression.antt).
+// The faults: their numbers, named as in the definitions (specs/Expression.antt).
 
+// A fault of an expression, by its number.
+#[derive(Clone, Copy, PartialEq, Eq, Debug)]
+pub struct Fault {
+    pub number: u8,
+}
+
+// Stays: (a) these are numbers, which no enum has: a raise has one of its own, up to 255 (`is_fault_number`), an order keeps one as a byte of its state
+// (`Order`'s `cause`), and `acted` and `step_order` answer one to hosts in C.
 // A raise of the plan's own.
 pub const PLAIN_RAISE: u8 = 0;
 

@@ -12,6 +12,9 @@ pub mod parts;
 pub mod rows;
 pub mod sending;
 
+ghost use Rattle.std.specs.Prelude.{◌≡◌};
+ghost use Rattle.order.specs.Answering.{is_over};
+
 // An order. Where `root` is 0 the slot is free; else `root` is the mark of the root, which counts as a scope and has no number.
 // `marks` has the mark of each activity by its number. `bound` is 1 where the variable of that number is bound and 0 where it is not.
 // The first `kept` places of `remembered` are the closings, oldest first, and the places beyond hold 0. `cause` is the number of the fault that the root
@@ -45,13 +48,6 @@ pub enum End {
     Left,
 }
 
-// What an expression comes to: a fault with its number, or a value.
-#[derive(Clone, Copy)]
-pub enum Worth {
-    Fault { number: u8 },
-    Value { value: u32 },
-}
-
 // How what runs stands after a step in it: it runs on; it is over; a fault came out of it; the order leaves; and of what stands around an undo
 // part that is running, the undo part is over, or a fault came out of it. A fault has its number.
 #[derive(Clone, Copy)]
@@ -62,6 +58,16 @@ pub enum Way {
     Leaving,
     Undone,
     UndoRaising { number: u8 },
+}
+
+impl Way {
+    // Whether something is over.
+    #[tactic(auto, unfolding(crate::specs::Answering::is_over))]
+    pub fn is_over(self) -> bool
+        ensures { result ≡ is_over self }
+    {
+        matches!(self, Way::Over)
+    }
 }
 
 // An order after a step in part of it, and how that part stands.
@@ -96,11 +102,4 @@ pub struct Next {
     pub end: End,
     pub fault: u8,
     pub order: Order,
-}
-
-// The place of what is looked for, or none.
-#[derive(Clone, Copy)]
-pub enum Found {
-    At(usize),
-    Nothing,
 }

@@ -1,4 +1,6 @@
 // The marks, named as in the definitions (specs/State.antt). A scope that faulted has beside its mark which fault part it runs: `marks` puts these together.
+// Stays: (a) they are numbers, as an order's `marks` and `root` are bytes of a state, saved and given through C, and specs/State.antt, of which every theorem speaks, has
+// them as numbers: `mark_with` puts a choice and a mark into one.
 
 // An activity is idle unless it has begun and is not over. Active: a sequence or a flow runs, a scope's body runs, anything else awaits its step.
 // Inside: a choose or a repeat has decided, or an arm of a pick was taken, and what stands within runs.

@@ -4,7 +4,6 @@ ghost use Rattle.order.specs.Answering.{Chooses, Faulting, PartRow, chosen_index
 ghost use Rattle.order.specs.Scope.{general_for};
 
 use super::marks::{causing, mark_with, marking};
-use super::memory::wide;
 use super::rows::{end_of, number_at};
 use super::{Order, Spot, mark};
 use plan::table::Table;
@@ -13,44 +12,17 @@ use plan::table::Table;
 fn general_for(number: u8) -> u8
     ensures { (result ≡ general_for number) × (result < 16) }
 {
-    if number <= 5 { 9 + number } else { 15 }
-}
-
-// A count of fault parts by number: at most eight.
-fn few(x: usize) -> usize
-    ensures { (result ≤ 8) × (x ≤ 8 → result ≡ x) }
-{
-    if x <= 8 { x } else { 8 }
-}
-
-// The choice of the part with the i-th number.
-fn choice_at(i: usize) -> u8
-    requires { i < 8 }
-    ensures { (result ≡ i + 1) × (result < 16) }
-{
-    (i + 1) as u8
-}
-
-// A number of a fault, as it stands in a row.
-fn word(x: u8) -> u32
-    ensures { result ≡ x }
-{
-    x as u32
+    9 + number.min(6)
 }
 
 // Which of its fault parts a scope runs for a fault of that number: the part with the equal number, else the general one.
 fn choice_for(table: &Table, spot: Spot, number: u8) -> u8
     ensures { Chooses table.now spot number result }
 {
-    let k = spot.first;
-    let n = few(spot.count);
-    let x = word(number);
-    let mut i: usize = 0;
-    while i < n {
-        if number_at(table, k, i) == x {
-            return choice_at(i);
+    for i in 0..spot.count.min(8) {
+        if number_at(table, spot.first, i) == u32::from(number) {
+            return i as u8 + 1;
         }
-        i += 1;
     }
     general_for(number)
 }
@@ -72,10 +44,8 @@ fn part_row(table: &Table, c: usize, i: usize) -> usize
     ensures { PartRow table.now c i result }
 {
     let mut j = c;
-    let mut n = i;
-    while 0 < n {
+    for _ in 0..i {
         j = end_of(table, j);
-        n -= 1;
     }
     j
 }
@@ -84,31 +54,24 @@ fn part_row(table: &Table, c: usize, i: usize) -> usize
 fn chosen_index(choice: u8, count: usize) -> usize
     ensures { result ≡ chosen_index choice count }
 {
-    let c = wide(choice);
-    if c == 0 {
-        return count;
+    let c = usize::from(choice);
+    if 0 < c && c < 9 && c <= count {
+        c - 1
+    } else {
+        count
     }
-    if 9 <= c {
-        return count;
-    }
-    if count < c {
-        return count;
-    }
-    c - 1
 }
 
 // The row of the fault part that a scope chose.
 pub fn chosen_row(table: &Table, spot: Spot, choice: u8) -> usize
     ensures { ChosenRow table.now spot choice result }
 {
-    let i = chosen_index(choice, spot.count);
-    part_row(table, spot.parts, i)
+    part_row(table, spot.parts, chosen_index(choice, spot.count))
 }
 
 // The row after the fault parts of a scope: that of its undo part, where it has one.
 pub fn undo_row(table: &Table, spot: Spot) -> usize
     ensures { UndoRow table.now spot result }
 {
-    let general = part_row(table, spot.parts, spot.count);
-    end_of(table, general)
+    end_of(table, part_row(table, spot.parts, spot.count))
 }

@@ -10,22 +10,16 @@ use plan::table::{PARTNER, Table, VARIABLE, WIDTH};
 fn bound_at(bound: &[u8; 16], v: u32) -> bool
     ensures { BoundAt bound.now v result }
 {
-    if 16 <= v {
-        return false;
-    }
     let i = v as usize;
-    bound[i] == 1
+    i < 16 && bound[i] == 1
 }
 
 // The value of variable v.
 fn value_at(values: &[u32; 16], v: u32) -> u32
     ensures { ValueAt values.now v result }
 {
-    if 16 <= v {
-        return 0;
-    }
     let i = v as usize;
-    values[i]
+    if i < 16 { values[i] } else { 0 }
 }
 
 // Whether all variables of the tuple that row k names are bound.
@@ -33,12 +27,8 @@ fn tuple_bound(table: &Table, k: usize, bound: &[u8; 16]) -> bool
     requires { k < 256 }
     ensures { TupleBound table.now k bound.now result }
 {
-    let n = count_of(table, k);
-    let mut i: usize = 0;
-    while i < n {
-        if bound_at(bound, variable_of(table, k, i)) {
-            i += 1;
-        } else {
+    for i in 0..count_of(table, k) {
+        if !bound_at(bound, variable_of(table, k, i)) {
             return false;
         }
     }
@@ -49,16 +39,9 @@ fn tuple_bound(table: &Table, k: usize, bound: &[u8; 16]) -> bool
 pub fn all_bound(table: &Table, k: usize, bound: &[u8; 16]) -> bool
     ensures { AllBound table.now k bound.now result }
 {
-    if 256 <= k {
-        return false;
-    }
-    if table[k * WIDTH] == kind::HELD_SEND {
-        if bound_at(bound, table[k * WIDTH + VARIABLE]) {
-            return tuple_bound(table, k, bound);
-        }
-        return false;
-    }
-    tuple_bound(table, k, bound)
+    k < 256
+        && (table[k * WIDTH] != kind::HELD_SEND || bound_at(bound, table[k * WIDTH + VARIABLE]))
+        && tuple_bound(table, k, bound)
 }
 
 // The partner of the send in row k, or what its variable holds in the place of one.
@@ -67,9 +50,10 @@ pub fn partner_to(table: &Table, k: usize, values: &[u32; 16]) -> u32
     ensures { PartnerTo table.now k values.now result }
 {
     if table[k * WIDTH] == kind::HELD_SEND {
-        return value_at(values, table[k * WIDTH + VARIABLE]);
+        value_at(values, table[k * WIDTH + VARIABLE])
+    } else {
+        table[k * WIDTH + PARTNER]
     }
-    table[k * WIDTH + PARTNER]
 }
 
 // Whether what the variable of the send in row k holds is a partner; where it has its partner itself it is one.
@@ -77,10 +61,7 @@ pub fn reaches(table: &Table, k: usize, values: &[u32; 16]) -> bool
     requires { k < 256 }
     ensures { Reaches table.now k values.now result }
 {
-    if table[k * WIDTH] == kind::HELD_SEND {
-        return partner_to(table, k, values) <= 63;
-    }
-    true
+    table[k * WIDTH] != kind::HELD_SEND || partner_to(table, k, values) <= 63
 }
 
 // Whether the send in row k would send, and not raise.
@@ -88,8 +69,5 @@ pub fn may_send(table: &Table, k: usize, bound: &[u8; 16], values: &[u32; 16]) -
     requires { k < 256 }
     ensures { MaySend table.now k bound.now values.now result }
 {
-    if all_bound(table, k, bound) {
-        return reaches(table, k, values);
-    }
-    false
+    all_bound(table, k, bound) && reaches(table, k, values)
 }

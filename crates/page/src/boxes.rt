@@ -1,25 +1,25 @@
 // An order on the drawing of its plan, as boxes within boxes: what runs is marked, and so is what would be undone.
 use super::sizes;
-use drawing::{Out, measure, put, put_labelled, put_markup, put_number};
+use drawing::{Out, put_labelled};
 use order::Order;
 use plan::table::Table;
 use wording::doing;
 
 // How a box is marked, by what its activity does.
-fn put_class(out: &mut Out, used: usize, doing: usize) -> usize {
+fn put_class(out: &mut Out, doing: usize) {
     match doing {
-        doing::IDLE => put_markup(out, used, b"idle"),
-        doing::DONE => put_markup(out, used, b"done"),
-        doing::RUNNING => put_markup(out, used, b"run"),
-        doing::WAITING => put_markup(out, used, b"wait"),
-        doing::REMEMBERED => put_markup(out, used, b"kept"),
-        doing::STOPPED => put_markup(out, used, b"stop"),
+        doing::IDLE => out.put_markup(b"idle"),
+        doing::DONE => out.put_markup(b"done"),
+        doing::RUNNING => out.put_markup(b"run"),
+        doing::WAITING => out.put_markup(b"wait"),
+        doing::REMEMBERED => out.put_markup(b"kept"),
+        doing::STOPPED => out.put_markup(b"stop"),
         doing::FAULTED
         | doing::UNDOING
         | doing::HANDLING
         | doing::STOPPED_UNDOING
-        | doing::UNDONE => put_markup(out, used, b"fault"),
-        _ => put_markup(out, used, b"ready"),
+        | doing::UNDONE => out.put_markup(b"fault"),
+        _ => out.put_markup(b"ready"),
     }
 }
 
@@ -64,54 +64,46 @@ fn times_of(order: Order, n: usize) -> u64 {
 }
 
 // When the closings of scope n would be undone.
-fn put_turn(out: &mut Out, used: usize, order: Order, n: usize) -> usize {
+fn put_turn(out: &mut Out, order: Order, n: usize) {
     let turn = turn_of(order, n);
     if turn == 0 {
-        return used;
+        return;
     }
-    let mut at = put(out, used, b", undo ");
-    at = put_number(out, at, turn as u64);
+    out.put(b", undo ");
+    out.put_number(turn as u64);
     let times = times_of(order, n);
-    if times == 1 {
-        return at;
+    if times != 1 {
+        out.put(b" (");
+        out.put_number(times);
+        out.put(b" times)");
     }
-    at = put(out, at, b" (");
-    at = put_number(out, at, times);
-    put(out, at, b" times)")
 }
 
 // What activity n does, and when it would be undone.
-fn put_state(out: &mut Out, used: usize, doing: usize, order: Order, n: usize) -> usize {
-    let at = doing::put_doing(out, used, false, doing);
-    put_turn(out, at, order, n)
+fn put_state(out: &mut Out, doing: usize, order: Order, n: usize) {
+    doing::put_doing(out, false, doing);
+    put_turn(out, order, n);
 }
 
 // What stands in the box of row n: its number, and what it is.
-fn put_label(
-    out: &mut Out,
-    used: usize,
-    names: &[u8; 16896],
-    table: &Table,
-    flags: &[u8; 16],
-    n: usize,
-) -> usize {
-    let mut at = put_number(out, used, n as u64);
-    at = put(out, at, b"  ");
-    put_labelled(out, at, names, table, flags, n)
+fn put_label(out: &mut Out, names: &[u8; 16896], table: &Table, flags: &[u8; 16], n: usize) {
+    out.put_number(n as u64);
+    out.put(b"  ");
+    put_labelled(out, names, table, flags, n);
 }
 
-fn put_attribute(out: &mut Out, used: usize, front: &[u8], value: usize) -> usize {
-    let mut at = put_markup(out, used, front);
-    at = put_number(out, at, value as u64);
-    put_markup(out, at, b"\"")
+fn put_attribute(out: &mut Out, front: &[u8], value: usize) {
+    out.put_markup(front);
+    out.put_number(value as u64);
+    out.put_markup(b"\"");
 }
 
-fn put_rectangle(out: &mut Out, used: usize, table: &Table, n: usize, whole: usize) -> usize {
-    let mut at = put_attribute(out, used, b"<rect x=\"", sizes::left_of(table, n));
-    at = put_attribute(out, at, b" y=\"", sizes::top_of(table, n));
-    at = put_attribute(out, at, b" width=\"", sizes::width_of(table, n, whole));
-    at = put_attribute(out, at, b" height=\"", sizes::height_of(table, n));
-    put_markup(out, at, b" rx=\"5\"/>")
+fn put_rectangle(out: &mut Out, table: &Table, n: usize, whole: usize) {
+    put_attribute(out, b"<rect x=\"", sizes::left_of(table, n));
+    put_attribute(out, b" y=\"", sizes::top_of(table, n));
+    put_attribute(out, b" width=\"", sizes::width_of(table, n, whole));
+    put_attribute(out, b" height=\"", sizes::height_of(table, n));
+    out.put_markup(b" rx=\"5\"/>");
 }
 
 fn plus(x: usize, y: usize) -> usize {
@@ -134,34 +126,32 @@ fn end_of_state(table: &Table, n: usize, whole: usize) -> usize {
 // The box of row n.
 fn put_box(
     out: &mut Out,
-    used: usize,
     names: &[u8; 16896],
     table: &Table,
     flags: &[u8; 16],
     order: Order,
     n: usize,
     whole: usize,
-) -> usize {
+) {
     let doing = doing::doing_of(table, order, n);
     let line = plus(sizes::top_of(table, n), 17);
-    let mut at = put_markup(out, used, b"<g class=\"");
-    at = put_class(out, at, doing);
-    at = put_markup(out, at, b"\">");
-    at = put_rectangle(out, at, table, n, whole);
-    at = put_attribute(out, at, b"<text x=\"", plus(sizes::left_of(table, n), 8));
-    at = put_attribute(out, at, b" y=\"", line);
-    at = put_markup(out, at, b">");
-    at = put_label(out, at, names, table, flags, n);
-    at = put_attribute(
+    out.put_markup(b"<g class=\"");
+    put_class(out, doing);
+    out.put_markup(b"\">");
+    put_rectangle(out, table, n, whole);
+    put_attribute(out, b"<text x=\"", plus(sizes::left_of(table, n), 8));
+    put_attribute(out, b" y=\"", line);
+    out.put_markup(b">");
+    put_label(out, names, table, flags, n);
+    put_attribute(
         out,
-        at,
         b"</text><text class=\"state\" text-anchor=\"end\" x=\"",
         end_of_state(table, n, whole),
     );
-    at = put_attribute(out, at, b" y=\"", line);
-    at = put_markup(out, at, b">");
-    at = put_state(out, at, doing, order, n);
-    put_markup(out, at, b"</text></g>\n")
+    put_attribute(out, b" y=\"", line);
+    out.put_markup(b">");
+    put_state(out, doing, order, n);
+    out.put_markup(b"</text></g>\n");
 }
 
 // How wide a drawing must be for row n.
@@ -173,10 +163,11 @@ fn width_for(
     order: Order,
     n: usize,
 ) -> usize {
-    let mut out = measure(like);
-    let label = put_label(&mut out, 0, names, table, flags, n);
-    let state = put_state(&mut out, 0, doing::doing_of(table, order, n), order, n);
-    sizes::width_for(table, n, plus(label, state))
+    let mut label = like.measure();
+    put_label(&mut label, names, table, flags, n);
+    let mut state = like.measure();
+    put_state(&mut state, doing::doing_of(table, order, n), order, n);
+    sizes::width_for(table, n, plus(label.len(), state.len()))
 }
 
 fn wider(x: usize, y: usize) -> usize {
@@ -204,52 +195,46 @@ fn width_of(
 }
 
 // A drawing of this size.
-fn put_opening(out: &mut Out, used: usize, width: usize, height: usize) -> usize {
-    let mut at = put_markup(
-        out,
-        used,
+fn put_opening(out: &mut Out, width: usize, height: usize) {
+    out.put_markup(
         b"<svg xmlns=\"http://www.w3.org/2000/svg\" role=\"img\" aria-label=\"The activities of the plan as boxes within boxes, each with what it is doing\"",
     );
-    at = put_attribute(out, at, b" width=\"", width);
-    at = put_attribute(out, at, b" height=\"", height);
-    at = put_markup(out, at, b" viewBox=\"0 0 ");
-    at = put_number(out, at, width as u64);
-    at = put_markup(out, at, b" ");
-    at = put_number(out, at, height as u64);
-    put_markup(out, at, b"\">\n")
+    put_attribute(out, b" width=\"", width);
+    put_attribute(out, b" height=\"", height);
+    out.put_markup(b" viewBox=\"0 0 ");
+    out.put_number(width as u64);
+    out.put_markup(b" ");
+    out.put_number(height as u64);
+    out.put_markup(b"\">\n");
 }
 
 fn put_rows(
     out: &mut Out,
-    used: usize,
     names: &[u8; 16896],
     table: &Table,
     flags: &[u8; 16],
     activities: usize,
     order: Order,
     whole: usize,
-) -> usize {
-    let mut at = used;
+) {
     let mut n = 0;
     while n < activities {
-        at = put_box(out, at, names, table, flags, order, n, whole);
+        put_box(out, names, table, flags, order, n, whole);
         n += 1;
     }
-    at
 }
 
 // All boxes.
 pub(crate) fn put_boxes(
     out: &mut Out,
-    used: usize,
     names: &[u8; 16896],
     table: &Table,
     flags: &[u8; 16],
     activities: usize,
     order: Order,
-) -> usize {
+) {
     let whole = width_of(out, names, table, flags, activities, order);
-    let mut at = put_opening(out, used, whole, sizes::whole_height(activities));
-    at = put_rows(out, at, names, table, flags, activities, order, whole);
-    put_markup(out, at, b"</svg>")
+    put_opening(out, whole, sizes::whole_height(activities));
+    put_rows(out, names, table, flags, activities, order, whole);
+    out.put_markup(b"</svg>");
 }

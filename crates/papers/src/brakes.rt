@@ -1,6 +1,6 @@
 // Brakes: where orders are live or messages wait, a desk that speaks to a person does not drop them unless it is told to.
-use super::{Desk, failed};
-use drawing::{Out, put, put_byte, put_next, put_number};
+use super::Desk;
+use drawing::Out;
 use order::Order;
 
 fn with_live(live: usize, root: u8) -> usize {
@@ -26,7 +26,7 @@ pub fn live_in(orders: [Order; 16]) -> usize {
 }
 
 // What there is to lose: live orders, and messages that wait.
-fn stock_of(desk: Desk) -> usize {
+fn stock_of(desk: &Desk) -> usize {
     let state = desk.state;
     let orders = state.orders;
     let live = live_in(orders);
@@ -37,7 +37,7 @@ fn stock_of(desk: Desk) -> usize {
 }
 
 // Whether the desk has brakes now: it speaks to a person, was not told otherwise, and has something to lose.
-pub fn is_braked(desk: Desk) -> bool {
+pub fn is_braked(desk: &Desk) -> bool {
     if desk.spoken {
         if !desk.bold {
             return 0 < stock_of(desk);
@@ -46,45 +46,46 @@ pub fn is_braked(desk: Desk) -> bool {
     false
 }
 
-fn put_many(out: &mut Out, used: usize, many: usize, one: &[u8], more: &[u8]) -> usize {
-    let at = put_number(out, used, many as u64);
+fn put_many(out: &mut Out, many: usize, one: &[u8], more: &[u8]) {
+    out.put_number(many as u64);
     if many == 1 {
-        return put(out, at, one);
+        out.put(one);
+    } else {
+        out.put(more);
     }
-    put(out, at, more)
 }
 
-fn put_live(out: &mut Out, used: usize, live: usize) -> usize {
-    put_many(out, used, live, b" order is live", b" orders are live")
+fn put_live(out: &mut Out, live: usize) {
+    put_many(out, live, b" order is live", b" orders are live");
 }
 
-fn put_waiting(out: &mut Out, used: usize, waiting: usize) -> usize {
-    put_many(out, used, waiting, b" message waits", b" messages wait")
+fn put_waiting(out: &mut Out, waiting: usize) {
+    put_many(out, waiting, b" message waits", b" messages wait");
 }
 
 // What there is to lose, in words.
-pub fn put_lost(out: &mut Out, used: usize, live: usize, waiting: usize) -> usize {
+pub fn put_lost(out: &mut Out, live: usize, waiting: usize) {
     if live == 0 {
-        return put_waiting(out, used, waiting);
+        put_waiting(out, waiting);
+    } else {
+        put_live(out, live);
+        if waiting != 0 {
+            out.put(b", ");
+            put_waiting(out, waiting);
+        }
     }
-    let at = put_live(out, used, live);
-    if waiting == 0 {
-        return at;
-    }
-    let at = put(out, at, b", ");
-    put_waiting(out, at, waiting)
 }
 
 // The answer of a desk that has brakes: what would be lost, and how to say that it may be.
-pub fn braked(desk: Desk, number: u64, word: &[u8], out: &mut Out) -> Desk {
+pub fn braked(desk: &mut Desk, number: u64, word: &[u8]) {
     let state = desk.state;
     let orders = state.orders;
-    let mut at = put(out, desk.used, b"error");
-    at = put_next(out, at, number);
-    at = put_byte(out, at, 32);
-    at = put_lost(out, at, live_in(orders), state.waiting);
-    at = put(out, at, b": say ");
-    at = put(out, at, word);
-    at = put(out, at, b"! to drop them\n");
-    failed(desk, at)
+    desk.out.put(b"error");
+    desk.out.put_next(number);
+    desk.out.put_byte(b' ');
+    put_lost(&mut desk.out, live_in(orders), state.waiting);
+    desk.out.put(b": say ");
+    desk.out.put(word);
+    desk.out.put(b"! to drop them\n");
+    desk.fail();
 }

@@ -1,6 +1,6 @@
 // Which earlier line a receive or an arm disagrees with, where a text earns 21: document 02, request 8.
 use super::writing::line_after;
-use drawing::{Out, put, put_byte, put_next, put_number};
+use drawing::Out;
 use plan::kind;
 
 // What a receive or an arm asks for; a count of 0 where there is none.
@@ -162,17 +162,17 @@ fn wide(x: u32) -> u64 {
     x as u64
 }
 
-fn put_counts(out: &mut Out, used: usize, line: u64, here: u32, other: u64, there: u32) -> usize {
-    let mut at = put(out, used, b"write 21");
-    at = put_next(out, at, line);
-    at = put(out, at, b" - takes ");
-    at = put_number(out, at, wide(here));
-    at = put(out, at, b", but line ");
-    at = put_number(out, at, other);
-    at = put(out, at, b" takes ");
-    at = put_number(out, at, wide(there));
-    at = put(out, at, b" for the same partner and operation");
-    put_byte(out, at, 10)
+fn put_counts(out: &mut Out, line: u64, here: u32, other: u64, there: u32) {
+    out.put(b"write 21");
+    out.put_next(line);
+    out.put(b" - takes ");
+    out.put_number(wide(here));
+    out.put(b", but line ");
+    out.put_number(other);
+    out.put(b" takes ");
+    out.put_number(wide(there));
+    out.put(b" for the same partner and operation");
+    out.put_byte(b'\n');
 }
 
 // The answer to a text whose row disagrees with an earlier one: both lines, and both counts.
@@ -183,17 +183,15 @@ pub(crate) fn put_disagreeing(
     lines: &[u32; 4355],
     row: usize,
     out: &mut Out,
-    used: usize,
-) -> usize {
+) {
     let here = asked_in(text, rows, lines, row);
     let k = earlier(text, rows, lines, row, here);
     let there = asked_in(text, rows, lines, k);
     put_counts(
         out,
-        used,
         line_after(number, wide(line_of(lines, row))),
         here.count,
         line_after(number, wide(line_of(lines, k))),
         there.count,
-    )
+    );
 }

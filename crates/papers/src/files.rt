@@ -1,212 +1,152 @@
 // A state with its tally and its names in a file: save and open.
 use super::sums::sum_of;
 use super::writing::forget;
-use super::{Desk, changed, failed, sealed, shown, system};
-use drawing::{Out, put, put_byte, put_error, put_next, put_refusal, runtime_of};
+use super::{Desk, Filed, Said, sealed, system};
+use drawing::Out;
 use machine::State;
 use plan::table::LENGTH;
+use std::alloc::AllocError;
 use std::fs::File;
 use store::Kept;
 
 // Why a call of the system failed.
-fn put_reason(out: &mut Out, used: usize, errno: i32) -> usize {
+fn put_reason(out: &mut Out, errno: i32) {
     match errno {
-        1 | 13 => put(out, used, b"permission denied"),
-        2 => put(out, used, b"no such file or folder"),
-        5 => put(out, used, b"the device fails"),
-        16 | 26 => put(out, used, b"it is in use"),
-        20 => put(out, used, b"a part of the name is no folder"),
-        21 => put(out, used, b"it is a folder"),
-        22 => put(out, used, b"no such name can be"),
-        27 => put(out, used, b"the file would be too large"),
-        28 | 122 => put(out, used, b"no room is left"),
-        30 => put(out, used, b"nothing can be written there"),
-        36 => put(out, used, b"the name is too long"),
-        _ => put(out, used, b"the system refuses it"),
+        1 | 13 => out.put(b"permission denied"),
+        2 => out.put(b"no such file or folder"),
+        5 => out.put(b"the device fails"),
+        16 | 26 => out.put(b"it is in use"),
+        20 => out.put(b"a part of the name is no folder"),
+        21 => out.put(b"it is a folder"),
+        22 => out.put(b"no such name can be"),
+        27 => out.put(b"the file would be too large"),
+        28 | 122 => out.put(b"no room is left"),
+        30 => out.put(b"nothing can be written there"),
+        36 => out.put(b"the name is too long"),
+        _ => out.put(b"the system refuses it"),
     }
 }
 
 // A command that failed: `error LINE cannot WORD: REASON`.
-pub fn put_failed(out: &mut Out, used: usize, line: u64, word: &[u8], errno: i32) -> usize {
-    let mut at = put(out, used, b"error");
-    at = put_next(out, at, line);
-    at = put(out, at, b" cannot ");
-    at = put(out, at, word);
-    at = put(out, at, b": ");
-    at = put_reason(out, at, errno);
-    put_byte(out, at, 10)
+pub fn put_failed(out: &mut Out, line: u64, word: &[u8], errno: i32) {
+    out.put(b"error");
+    out.put_next(line);
+    out.put(b" cannot ");
+    out.put(word);
+    out.put(b": ");
+    put_reason(out, errno);
+    out.put_byte(b'\n');
 }
 
-fn set_at(name: &mut [u8; 4096], i: usize, b: u8) {
-    if i < 4096 {
-        name[i] = b;
-    }
+// The name of a file with an ending behind it.
+pub fn name_with(runtime: HostRuntime, file: &[u8], ending: &[u8]) -> Result<Vec<u8>, AllocError> {
+    let mut name = Vec::new(runtime.alloc());
+    name.extend_from_slice(file)?;
+    name.extend_from_slice(ending)?;
+    Ok(name)
 }
 
-// A text from a place of a name on; the place after it.
-pub fn put_name(name: &mut [u8; 4096], at: usize, text: &[u8]) -> usize {
-    let mut i = 0;
-    while i < text.len() {
-        set_at(name, at_most(at, i), text[i]);
-        i += 1;
-    }
-    at_most(at, text.len())
-}
-
-// A place within a name, or its end.
-fn at_most(at: usize, i: usize) -> usize {
-    if i < 4096 {
-        if at < 4096 {
-            return at + i;
-        }
-    }
-    4096
-}
-
-// All of a state is written, and is on disk, and the file is closed: 0, or the reason.
-fn written_whole(file: File, packed: &[u8]) -> i32 {
+// All of a state is written, and is on disk, and the file is closed; or the reason why not.
+fn written_whole(file: File, packed: &[u8]) -> Result<(), i32> {
     system::written(&file, packed)
 }
 
-// A new file takes the name of the old one: 0, or the reason, and then the new file is gone.
-pub fn replaced_by(runtime: HostRuntime, new: &[u8], file: &[u8]) -> i32 {
-    let e = system::rename(runtime, new, file);
-    if e != 0 {
-        system::unlink(runtime, new);
-    }
-    e
-}
-
-// A state is written to a new file, whose name `new` becomes; that file then takes the name of the old one. 0, or the reason.
-fn replaced(runtime: HostRuntime, new: &mut [u8], file: &[u8], packed: &[u8]) -> i32 {
-    let e = match system::create_temp(runtime, new) {
-        Ok(made) => written_whole(made, packed),
-        Err(reason) => return reason,
+// A new file, which was written whole or for a reason was not, takes the name of the old one; or it is gone, for the reason why not.
+pub fn replaced_by(
+    runtime: HostRuntime,
+    new: &[u8],
+    file: &[u8],
+    written: Result<(), i32>,
+) -> Result<(), i32> {
+    let done = match written {
+        Ok(()) => system::rename(runtime, new, file),
+        Err(reason) => Err(reason),
     };
-    if e != 0 {
+    if done.is_err() {
         system::unlink(runtime, new);
-        return e;
     }
-    replaced_by(runtime, new, file)
+    done
 }
 
-// The place after the last slash of a name: where the name of its folder ends.
-fn folder_of(file: &[u8]) -> usize {
-    let mut end = 0;
-    let mut i = 0;
-    while i < file.len() {
-        if file[i] == 47 {
-            end = i + 1;
-        }
-        i += 1;
-    }
-    end
+// A state is written to a new file, whose name `new` becomes; that file then takes the name of the old one. Or the reason why not.
+fn replaced(runtime: HostRuntime, new: &mut [u8], file: &[u8], packed: &[u8]) -> Result<(), i32> {
+    let made = system::create_temp(runtime, new)?;
+    let written = written_whole(made, packed);
+    replaced_by(runtime, new, file, written)
 }
 
-fn opened_folder(runtime: HostRuntime, file: &[u8], end: usize) -> Result<File, i32> {
-    if end == 0 {
-        return system::open_read(runtime, b".");
+// The folder of a file, opened.
+fn opened_folder(runtime: HostRuntime, file: &[u8]) -> Result<File, i32> {
+    match file.iter().rposition(|b| *b == b'/') {
+        Some(slash) => system::open_read(runtime, &file[..=slash]),
+        None => system::open_read(runtime, b"."),
     }
-    if end <= file.len() {
-        return system::open_read(runtime, &file[0..end]);
-    }
-    Err(2)
 }
 
 // The folder of a file is on disk too, where the system can do that, so that the new name is.
 fn folder_kept(runtime: HostRuntime, file: &[u8]) {
-    if let Ok(folder) = opened_folder(runtime, file, folder_of(file)) {
-        system::synced(&folder);
+    if let Ok(folder) = opened_folder(runtime, file) {
+        let _ = system::synced(&folder);
     }
 }
 
-fn replaced_at(runtime: HostRuntime, name: &mut [u8], n: usize, file: &[u8], packed: &[u8]) -> i32 {
-    if name.len() <= n {
-        return system::LONG_NAME;
-    }
-    let e = replaced(runtime, &mut name[0..n], file, packed);
-    if e == 0 {
-        folder_kept(runtime, file);
-    }
-    e
-}
-
-fn replaced_in(
-    runtime: HostRuntime,
-    name: &mut [u8; 4096],
-    n: usize,
-    file: &[u8],
-    packed: &[u8],
-) -> i32 {
-    replaced_at(runtime, name, n, file, packed)
-}
-
-// Saves a state by the name of its file: 0, or the reason.
-fn saved(runtime: HostRuntime, file: &[u8], packed: &[u8]) -> i32 {
-    let mut name = [0u8; 4096];
-    let at = put_name(&mut name, 0, file);
-    let n = put_name(&mut name, at, b".XXXXXX");
-    replaced_in(runtime, &mut name, n, file, packed)
+// Saves a state by the name of its file, or tells why not.
+fn saved(runtime: HostRuntime, file: &[u8], packed: &[u8]) -> Result<(), i32> {
+    let mut new = name_with(runtime, file, b".XXXXXX").map_err(system::no_memory)?;
+    replaced(runtime, &mut new, file, packed)?;
+    folder_kept(runtime, file);
+    Ok(())
 }
 
 // What a save or an open comes to.
-fn told(desk: Desk, number: u64, word: &[u8], e: i32, out: &mut Out) -> Desk {
-    if e == 0 {
-        let used = put_refusal(out, desk.used, word, 0);
-        return shown(desk, used);
+fn told(desk: &mut Desk, number: u64, word: &[u8], done: Result<(), i32>) {
+    match done {
+        Ok(()) => desk.out.put_refusal(word, 0),
+        Err(reason) => {
+            put_failed(&mut desk.out, number, word, reason);
+            desk.fail();
+        }
     }
-    let used = put_failed(out, desk.used, number, word, e);
-    failed(desk, used)
 }
 
 // A desk whose state is in a file, if it is, by the sums of its name and of what it holds.
-fn filed(desk: Desk, file: u64, seen: u64) -> Desk {
-    let mut d = desk;
-    if d.said == 0 {
-        d.unsaved = false;
-        d.filed = true;
-        d.file = file;
-        d.seen = seen;
+fn filed(desk: &mut Desk, name: u64, held: u64) {
+    if desk.said == Said::Well {
+        desk.unsaved = false;
+        desk.filed = Some(Filed { name, held });
     }
-    d
 }
 
 // The bytes of a file that the desk saves.
-fn put_desk(desk: Desk, names: &[u8; 16896], file: &mut [u8]) {
+fn put_desk(desk: &Desk, file: &mut [u8]) {
     let mut packed = [0u8; 12748];
     let state = desk.state;
     let tally = desk.tally;
     store::pack(state, tally, &mut packed);
-    sealed::put_file(file, &packed, &names[..]);
+    sealed::put_file(file, &packed, &desk.names[..]);
 }
 
 // Saves the state, the tally and the names.
-pub fn save(desk: Desk, file: &[u8], number: u64, names: &[u8; 16896], out: &mut Out) -> Desk {
+pub fn save(desk: &mut Desk, file: &[u8], number: u64) {
     // what was answered before is written first: where it cannot be, nothing is made lasting
-    let used = drawing::flush(out, desk.used);
-    let before = shown(desk, used);
-    if drawing::is_lost(used) {
-        return before;
+    desk.out.flush();
+    if desk.out.is_lost() {
+        return;
     }
     let mut bytes = [0u8; 29660];
-    put_desk(desk, names, &mut bytes);
-    let e = saved(runtime_of(out), file, &bytes);
-    filed(
-        told(before, number, b"save", e, out),
-        sum_of(file),
-        sum_of(&bytes),
-    )
+    put_desk(desk, &mut bytes);
+    let done = saved(desk.out.runtime(), file, &bytes);
+    told(desk, number, b"save", done);
+    filed(desk, sum_of(file), sum_of(&bytes));
 }
 
-// Why nothing was read: 0 where nothing stands there.
-fn unread(opened: &File, n: usize) -> i32 {
+// Why nothing was read, where nothing was; a file in which nothing stands can be read.
+fn readable(opened: &File, n: usize) -> Result<(), i32> {
     if n == 0 {
         let mut one = [0u8; 1];
-        if let Err(reason) = system::read_some(opened, &mut one) {
-            return reason;
-        }
+        system::read_some(opened, &mut one)?;
     }
-    0
+    Ok(())
 }
 
 // Whether a state has no plan, and numbers within their limits.
@@ -230,63 +170,48 @@ fn is_sound(state: State) -> bool {
 
 // A plan becomes the last plan.
 pub(crate) fn copied(plan: &[u8; 4096], bytes: &mut [u8; 8000]) {
-    let mut i = 0;
-    while i < 4096 {
-        bytes[i] = plan[i];
-        i += 1;
-    }
+    bytes[..4096].copy_from_slice(plan);
 }
 
-fn put_foreign(desk: Desk, number: u64, out: &mut Out) -> Desk {
-    let used = put_error(
-        out,
-        desk.used,
-        number,
-        b"cannot open: it holds no saved state",
-    );
-    failed(desk, used)
+fn put_foreign(desk: &mut Desk, number: u64) {
+    desk.out
+        .put_error(number, b"cannot open: it holds no saved state");
+    desk.fail();
 }
 
 // The desk on a state that was kept. Its plan is the last plan.
-fn reopened(desk: Desk, kept: Kept, bytes: &mut [u8; 8000], out: &mut Out) -> Desk {
+fn reopened(desk: &mut Desk, kept: Kept) {
     let state = kept.state;
     let tally = kept.tally;
     let plan = state.plan;
-    copied(&plan, bytes);
-    let at = put_refusal(out, desk.used, b"open", 0);
-    changed(desk, state, tally, state.length, at)
+    copied(&plan, &mut desk.bytes);
+    desk.out.put_refusal(b"open", 0);
+    desk.plan = state.length;
+    desk.change(state, tally);
 }
 
-fn taken(
-    desk: Desk,
-    kept: Kept,
-    number: u64,
-    bytes: &mut [u8; 8000],
-    names: &mut [u8; 16896],
-    out: &mut Out,
-) -> Desk {
+fn taken(desk: &mut Desk, kept: Kept, number: u64) {
     if kept.refused {
-        return put_foreign(desk, number, out);
+        put_foreign(desk, number);
+    } else {
+        let state = kept.state;
+        if is_sound(state) {
+            let before = desk.state;
+            reopened(desk, kept);
+            forget(before, &desk.bytes, desk.plan, &mut desk.names);
+        } else {
+            put_foreign(desk, number);
+        }
     }
-    let state = kept.state;
-    if is_sound(state) {
-        let before = desk.state;
-        let d = reopened(desk, kept, bytes, out);
-        forget(before, bytes, d.plan, names);
-        return d;
-    }
-    put_foreign(desk, number, out)
 }
 
 // A file that a desk saved, or a state of a host's, and something is amiss with it.
-fn put_changed(desk: Desk, number: u64, out: &mut Out) -> Desk {
-    let used = put_error(
-        out,
-        desk.used,
+fn put_changed(desk: &mut Desk, number: u64) {
+    desk.out.put_error(
         number,
         b"cannot open: it was cut or changed since it was saved",
     );
-    failed(desk, used)
+    desk.fail();
 }
 
 // The state that bytes hold, of whatever version.
@@ -306,76 +231,46 @@ pub fn kept_front(bytes: &[u8]) -> Kept {
 }
 
 // The state and the names of a file that is whole.
-fn taken_whole(
-    desk: Desk,
-    file: &[u8],
-    number: u64,
-    bytes: &mut [u8; 8000],
-    names: &mut [u8; 16896],
-    out: &mut Out,
-) -> Desk {
+fn taken_whole(desk: &mut Desk, file: &[u8], number: u64) {
     let kept = kept_front(file);
-    let d = taken(desk, kept, number, bytes, names, out);
-    if d.said == 0 {
-        sealed::take_names(file, names);
+    taken(desk, kept, number);
+    if desk.said == Said::Well {
+        sealed::take_names(file, &mut desk.names);
     }
-    d
 }
 
 // What the bytes of a file come to: a file of the desk's own; a state as hosts save it, which has no names; or nothing that was saved.
-fn taken_from(
-    desk: Desk,
-    file: &[u8],
-    number: u64,
-    bytes: &mut [u8; 8000],
-    names: &mut [u8; 16896],
-    out: &mut Out,
-) -> Desk {
+fn taken_from(desk: &mut Desk, file: &[u8], number: u64) {
     if sealed::is_sealed(file) {
-        return taken_whole(desk, file, number, bytes, names, out);
+        taken_whole(desk, file, number);
+    } else {
+        let kept = kept_in(file);
+        if !kept.refused {
+            taken(desk, kept, number);
+        } else if sealed::begins_as_state(file) {
+            put_changed(desk, number);
+        } else {
+            put_foreign(desk, number);
+        }
     }
-    let kept = kept_in(file);
-    if !kept.refused {
-        return taken(desk, kept, number, bytes, names, out);
-    }
-    if sealed::begins_as_state(file) {
-        return put_changed(desk, number, out);
-    }
-    put_foreign(desk, number, out)
 }
 
 // What a file that was opened holds becomes the state, the tally and the names; `file` is the sum of its name.
-fn read(
-    desk: Desk,
-    opened: File,
-    file: u64,
-    number: u64,
-    bytes: &mut [u8; 8000],
-    names: &mut [u8; 16896],
-    out: &mut Out,
-) -> Desk {
+fn read(desk: &mut Desk, opened: File, file: u64, number: u64) {
     let mut held = [0u8; sealed::READ];
     let n = system::read_full(&opened, &mut held);
-    let e = unread(&opened, n);
-    if e != 0 {
-        return told(desk, number, b"open", e, out);
+    if let Err(reason) = readable(&opened, n) {
+        return told(desk, number, b"open", Err(reason));
     }
     let seen = sum_of(&held[..n]);
-    let d = taken_from(desk, &held[..n], number, bytes, names, out);
-    filed(d, file, seen)
+    taken_from(desk, &held[..n], number);
+    filed(desk, file, seen);
 }
 
 // Opens a file that was saved.
-pub fn open(
-    desk: Desk,
-    file: &[u8],
-    number: u64,
-    bytes: &mut [u8; 8000],
-    names: &mut [u8; 16896],
-    out: &mut Out,
-) -> Desk {
-    match system::open_read(runtime_of(out), file) {
-        Ok(opened) => read(desk, opened, sum_of(file), number, bytes, names, out),
-        Err(reason) => told(desk, number, b"open", reason, out),
+pub fn open(desk: &mut Desk, file: &[u8], number: u64) {
+    match system::open_read(desk.out.runtime(), file) {
+        Ok(opened) => read(desk, opened, sum_of(file), number),
+        Err(reason) => told(desk, number, b"open", Err(reason)),
     }
 }

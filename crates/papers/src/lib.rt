@@ -17,68 +17,100 @@ mod writing;
 
 pub use brakes::{braked, is_braked, live_in, put_lost};
 pub use checks::{check, warn};
+use drawing::Out;
 pub use drawing::failure;
-pub use files::{kept_front, open, put_failed, put_name, replaced_by, save};
+pub use files::{kept_front, name_with, open, put_failed, replaced_by, save};
 use machine::{State, Tally};
 pub use mends::mend;
-pub use plans::{draw, load, names, new, show};
+pub use plans::{draw, load, names, show};
 pub use sealed::READ;
 pub use sums::sum_of;
 pub use writing::write;
 
-// The state that orders run on, the tally, how many bytes the last plan has, and how many bytes wait to be written. What the last answer came to: 0, a
-// refusal, 1000 for an error, or 2000 where only names changed. Whether it answers with words, and has brakes; and whether this command has none. Whether something changed since the
-// last save or open, whether there was one, and sums of the name of that file and of what it held. Whether it was told to end.
+// What the last answer came to: all went well, the engine refused it, it was an error, or only names changed.
+#[derive(Clone, Copy, PartialEq, Eq)]
+pub enum Said {
+    Well,
+    Refused(u32),
+    Error,
+    Renamed,
+}
+
+// The file of a state: sums of its name and of what it held.
 #[derive(Clone, Copy)]
+pub struct Filed {
+    pub name: u64,
+    pub held: u64,
+}
+
+// The state that orders run on, and the tally; the last plan, the first `plan` of some bytes, and its names; what is answered, and what the last answer came
+// to. Whether it answers with words, and has brakes; and whether this command has none. Whether something changed since the last save or open, and the file
+// of that, if there was one. Whether it was told to end.
+#[derive(Drop)]
 pub struct Desk {
     pub state: State,
     pub tally: Tally,
+    pub bytes: [u8; 8000],
     pub plan: usize,
-    pub used: usize,
-    pub said: u32,
+    pub names: [u8; 16896],
+    pub out: Out,
+    pub said: Said,
     pub spoken: bool,
     pub bold: bool,
     pub unsaved: bool,
-    pub filed: bool,
-    pub file: u64,
-    pub seen: u64,
+    pub filed: Option<Filed>,
     pub over: bool,
 }
 
-// The desk, of which nothing changed but what waits to be written.
-pub fn shown(desk: Desk, used: usize) -> Desk {
-    let mut d = desk;
-    d.used = used;
-    d
+// The first bytes of some, so many of them; all where there are fewer.
+pub(crate) fn first(bytes: &[u8], length: usize) -> &[u8] {
+    bytes.get(..length).unwrap_or(bytes)
 }
 
-// The same, with what the answer came to.
-pub fn refused(desk: Desk, used: usize, refusal: u32) -> Desk {
-    let mut d = desk;
-    d.used = used;
-    d.said = refusal;
-    d
-}
+impl Desk {
+    // The desk as it begins: there is no plan, and it answers by numbers alone.
+    pub fn new(runtime: HostRuntime) -> Desk {
+        let loaded = machine::load(&[0u8; 1]);
+        Desk {
+            state: loaded.state,
+            tally: machine::no_tally(),
+            bytes: [0u8; 8000],
+            plan: 0,
+            names: [0u8; 16896],
+            out: Out::standard(runtime),
+            said: Said::Well,
+            spoken: false,
+            bold: false,
+            unsaved: false,
+            filed: None,
+            over: false,
+        }
+    }
 
-// The same, where the answer is an error.
-pub fn failed(desk: Desk, used: usize) -> Desk {
-    refused(desk, used, 1000)
-}
+    // The answer is an error, which is told elsewhere.
+    pub fn fail(&mut self) {
+        self.said = Said::Error;
+    }
 
-// The desk on another state.
-pub fn changed(desk: Desk, state: State, tally: Tally, plan: usize, used: usize) -> Desk {
-    Desk {
-        state,
-        tally,
-        plan,
-        used,
-        said: 0,
-        spoken: desk.spoken,
-        bold: desk.bold,
-        unsaved: true,
-        filed: desk.filed,
-        file: desk.file,
-        seen: desk.seen,
-        over: desk.over,
+    // The answer is an error, for this reason.
+    pub fn error(&mut self, line: u64, reason: &[u8]) {
+        self.out.put_error(line, reason);
+        self.fail();
+    }
+
+    // The answer has the number of a refusal, 0 where nothing is refused.
+    pub fn answer(&mut self, refusal: u32) {
+        self.said = match refusal {
+            0 => Said::Well,
+            _ => Said::Refused(refusal),
+        };
+    }
+
+    // The desk goes on with another state.
+    pub fn change(&mut self, state: State, tally: Tally) {
+        self.state = state;
+        self.tally = tally;
+        self.said = Said::Well;
+        self.unsaved = true;
     }
 }

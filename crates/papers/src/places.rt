@@ -1,5 +1,5 @@
 // Where in a line of a text something is wrong: the word that stands there, and its column, counted from 1.
-use drawing::{Out, put, put_byte, put_next};
+use drawing::Out;
 use sheet::{past_blanks, word_end};
 
 fn byte_at(text: &[u8], at: usize) -> u8 {
@@ -30,13 +30,10 @@ fn after(column: u64, b: u8) -> u64 {
     column
 }
 
-fn put_part(out: &mut Out, used: usize, text: &[u8], from: usize, to: usize) -> usize {
-    if from <= to {
-        if to <= text.len() {
-            return put(out, used, &text[from..to]);
-        }
+fn put_part(out: &mut Out, text: &[u8], from: usize, to: usize) {
+    if from <= to && to <= text.len() {
+        out.put(&text[from..to]);
     }
-    used
 }
 
 // A mark that can be shown.
@@ -48,38 +45,36 @@ fn is_shown(b: u8) -> bool {
 }
 
 // What stands at a place: a word, or a mark.
-fn put_quoted(out: &mut Out, used: usize, text: &[u8], from: usize) -> usize {
+fn put_quoted(out: &mut Out, text: &[u8], from: usize) {
     let to = word_end(text, from);
-    let mut at = put(out, used, b" - '");
+    out.put(b" - '");
     if from < to {
-        at = put_part(out, at, text, from, to);
+        put_part(out, text, from, to);
     } else {
-        at = put_byte(out, at, byte_at(text, from));
+        out.put_byte(byte_at(text, from));
     }
-    put(out, at, b"'")
+    out.put(b"'");
 }
 
-fn put_found(out: &mut Out, used: usize, text: &[u8], from: usize) -> usize {
+fn put_found(out: &mut Out, text: &[u8], from: usize) {
     let b = byte_at(text, from);
     if b == 9 {
-        return put(out, used, b" - a tab");
+        out.put(b" - a tab");
+    } else if b == 35 {
+        out.put(b" - the end of the line");
+    } else if is_shown(b) {
+        put_quoted(out, text, from);
+    } else {
+        out.put(b" - the end of the line");
     }
-    if b == 35 {
-        return put(out, used, b" - the end of the line");
-    }
-    if is_shown(b) {
-        return put_quoted(out, used, text, from);
-    }
-    put(out, used, b" - the end of the line")
 }
 
 // ` - 'WORD', column COLUMN`; nothing where the place is not in the text.
-pub(crate) fn put_place(out: &mut Out, used: usize, text: &[u8], place: usize) -> usize {
+pub(crate) fn put_place(out: &mut Out, text: &[u8], place: usize) {
     if place < text.len() {
         let from = past_blanks(text, place);
-        let mut at = put_found(out, used, text, from);
-        at = put(out, at, b", column");
-        return put_next(out, at, column_of(text, from));
+        put_found(out, text, from);
+        out.put(b", column");
+        out.put_next(column_of(text, from));
     }
-    used
 }

@@ -3,6 +3,7 @@
 ghost use Rattle.std.specs.Prelude.{◌≤◌, length, IfOk};
 
 use drawing::{failure, write_all};
+use std::alloc::AllocError;
 use std::fs;
 use std::fs::{File, OpenOptions};
 use std::io::Read;
@@ -22,15 +23,9 @@ const NO_NAME: i32 = 22;
 
 pub const LONG_NAME: i32 = 36;
 
-fn has_zero(name: &[u8]) -> bool {
-    let mut i = 0;
-    while i < name.len() {
-        if name[i] == 0 {
-            return true;
-        }
-        i += 1;
-    }
-    false
+// No memory is left, as the system numbers it.
+pub fn no_memory(_: AllocError) -> i32 {
+    12
 }
 
 // A name as the runtime takes it, or why it takes it not.
@@ -38,23 +33,14 @@ fn named(name: &[u8]) -> Result<&str, i32> {
     if 4095 < name.len() {
         return Err(LONG_NAME);
     }
-    if has_zero(name) {
+    if name.contains(&0) {
         return Err(NO_NAME);
     }
-    match str::from_utf8(name) {
-        Ok(text) => Ok(text),
-        Err(_) => Err(NO_NAME),
-    }
+    str::from_utf8(name).map_err(|_| NO_NAME)
 }
 
 fn opened_by(options: &OpenOptions, runtime: HostRuntime, name: &[u8]) -> Result<File, i32> {
-    match named(name) {
-        Ok(text) => match options.open(&runtime, text) {
-            Ok(file) => Ok(file),
-            Err(e) => Err(failure(e)),
-        },
-        Err(reason) => Err(reason),
-    }
+    options.open(&runtime, named(name)?).map_err(failure)
 }
 
 // Opens a file to read it.
@@ -80,28 +66,19 @@ fn open_new(runtime: HostRuntime, name: &[u8]) -> Result<File, i32> {
 
 // A letter or a figure, of which there are 62.
 fn letter(number: u64) -> u8 {
-    let left = (number % 62) as u8;
-    if left < 10 {
-        return 48 + left;
+    match (number % 62) as u8 {
+        left @ 0..=9 => b'0' + left,
+        left @ 10..=35 => b'A' - 10 + left,
+        left => b'a' - 36 + left,
     }
-    if left < 36 {
-        return 55 + left;
-    }
-    61 + left
 }
 
 // The last six places of a name have the letters of a number.
 fn put_letters(name: &mut [u8], number: u64) {
     let mut left = number;
-    let mut at = name.len();
-    let mut k: usize = 0;
-    while k < 6 {
-        if 0 < at {
-            at -= 1;
-            name[at] = letter(left);
-        }
+    for place in name.iter_mut().rev().take(6) {
+        *place = letter(left);
         left /= 62;
-        k += 1;
     }
 }
 
@@ -117,35 +94,22 @@ fn any_number(runtime: HostRuntime) -> u64 {
 // Makes a new file: the last six places of `name` become letters and figures such that nothing has that name.
 pub fn create_temp(runtime: HostRuntime, name: &mut [u8]) -> Result<File, i32> {
     let mut number = any_number(runtime);
-    let mut tries: u32 = 0;
-    while tries < 238328 {
+    for _ in 0..238328 {
         put_letters(name, number);
         match open_new(runtime, name) {
             Ok(file) => return Ok(file),
-            Err(reason) => {
-                if reason != THERE {
-                    return Err(reason);
-                }
-            }
+            Err(THERE) => number = number.wrapping_add(7777),
+            Err(reason) => return Err(reason),
         }
-        number = number.wrapping_add(7777);
-        tries += 1;
     }
     Err(THERE)
 }
 
-// A file takes another name, and one that had it loses it: 0, or the reason why not.
-pub fn rename(runtime: HostRuntime, from: &[u8], to: &[u8]) -> i32 {
-    match named(from) {
-        Ok(old) => match named(to) {
-            Ok(new) => match fs::rename(&runtime, old, new) {
-                Ok(()) => 0,
-                Err(e) => failure(e),
-            },
-            Err(reason) => reason,
-        },
-        Err(reason) => reason,
-    }
+// A file takes another name, and one that had it loses it; or the reason why not.
+pub fn rename(runtime: HostRuntime, from: &[u8], to: &[u8]) -> Result<(), i32> {
+    let old = named(from)?;
+    let new = named(to)?;
+    fs::rename(&runtime, old, new).map_err(failure)
 }
 
 // A file loses its name, where it can.
@@ -159,14 +123,7 @@ pub fn unlink(runtime: HostRuntime, name: &[u8]) {
 fn end_of(name: &[u8]) -> usize
     ensures { result ≤ length name.now }
 {
-    let mut i = 0;
-    while i < name.len() {
-        if name[i] == 0 {
-            return i;
-        }
-        i += 1;
-    }
-    i
+    name.iter().position(|b| *b == 0).unwrap_or(name.len())
 }
 
 // Whether a name, as far as its first 0, is that of a link that can be read. Where the system gave what the link holds and the runtime cannot hold it, as
@@ -182,22 +139,16 @@ pub fn is_link(runtime: HostRuntime, name: &[u8]) -> bool {
     }
 }
 
-// All of some bytes are written to a file, and it is on disk: 0, or the reason why not.
-pub fn written(file: &File, bytes: &[u8]) -> i32 {
+// All of some bytes are written to a file, and it is on disk; or the reason why not.
+pub fn written(file: &File, bytes: &[u8]) -> Result<(), i32> {
     let mut to = file;
-    let reason = write_all(&mut to, bytes);
-    if reason != 0 {
-        return reason;
-    }
+    write_all(&mut to, bytes)?;
     synced(file)
 }
 
-// A file is on disk: 0, or the reason why not.
-pub fn synced(file: &File) -> i32 {
-    match file.sync_all() {
-        Ok(()) => 0,
-        Err(e) => failure(e),
-    }
+// A file is on disk, or the reason why not.
+pub fn synced(file: &File) -> Result<(), i32> {
+    file.sync_all().map_err(failure)
 }
 
 // Reads once: how many bytes, or why not.
@@ -205,10 +156,7 @@ pub fn read_some(file: &File, bytes: &mut [u8]) -> Result<usize, i32>
     ensures { IfOk result (λ n. n ≤ length bytes.new) }
 {
     let mut from = file;
-    match from.read(bytes) {
-        Ok(n) => Ok(n),
-        Err(e) => Err(failure(e)),
-    }
+    from.read(bytes).map_err(failure)
 }
 
 // Reads until the bytes are full, the file ends or a read fails: how many bytes.

@@ -6,55 +6,21 @@ use super::places::put_place;
 use super::plans::fresh;
 use super::reasons::put_why;
 use super::rules::put_rule;
-use super::{Desk, failed, refused, shown};
-use drawing::{Out, put, put_byte, put_hex, put_next, put_pair, unended};
+use super::{Desk, Said, first};
+use drawing::Out;
 use machine::State;
+use plan::Refusal;
 use sheet::Sheet;
 use writer::Answer;
 
-// Whether the first bytes are this plan.
-fn is_same(plan: &[u8; 4096], bytes: &[u8; 8000], length: usize) -> bool {
-    let mut i = 0;
-    while i < 4096 {
-        if i < length {
-            if plan[i] != bytes[i] {
-                return false;
-            }
-        }
-        i += 1;
-    }
-    true
-}
-
 // Whether two plans are the same, of this length.
-fn is_same_plan(a: &[u8; 4096], b: &[u8; 4096], length: usize) -> bool {
-    let mut i = 0;
-    while i < 4096 {
-        if i < length {
-            if a[i] != b[i] {
-                return false;
-            }
-        }
-        i += 1;
-    }
-    true
+fn is_same(a: &[u8], b: &[u8], length: usize) -> bool {
+    a.iter().zip(b).take(length).all(|(x, y)| *x == *y)
 }
 
 // Whether the last plan, which is the first `length` bytes, is still that of the state before it.
 fn is_kept(before: State, bytes: &[u8; 8000], length: usize) -> bool {
-    if before.length == length {
-        let plan = before.plan;
-        return is_same(&plan, bytes, length);
-    }
-    false
-}
-
-fn clear(names: &mut [u8; 16896]) {
-    let mut i = 0;
-    while i < 16896 {
-        names[i] = 0;
-        i += 1;
-    }
+    before.length == length && is_same(&before.plan, bytes, length)
 }
 
 // The names are those of the plan of the state before, and of no other.
@@ -62,7 +28,7 @@ pub(crate) fn forget(before: State, bytes: &[u8; 8000], length: usize, names: &m
     if is_kept(before, bytes, length) {
         return;
     }
-    clear(names);
+    names.fill(0);
 }
 
 // The number of a line of the text, where the write is line `number`.
@@ -87,201 +53,132 @@ fn line_of(lines: &[u32; 4355], row: usize) -> u64 {
 }
 
 // What is wrong with a line of the text, and, where it is to be pointed at, by which word.
-fn put_wrong(
-    out: &mut Out,
-    used: usize,
-    line: u64,
-    reason: usize,
-    text: &[u8],
-    place: usize,
-    pointed: bool,
-) -> usize {
-    let mut at = put(out, used, b"error");
-    at = put_next(out, at, line);
-    at = put_byte(out, at, 32);
-    at = put_why(out, at, reason);
+fn put_wrong(out: &mut Out, line: u64, reason: usize, text: &[u8], place: usize, pointed: bool) {
+    out.put(b"error");
+    out.put_next(line);
+    out.put_byte(b' ');
+    put_why(out, reason);
     if pointed {
-        at = put_place(out, at, text, place);
+        put_place(out, text, place);
     }
-    put_byte(out, at, 10)
+    out.put_byte(b'\n');
 }
 
-fn put_written(out: &mut Out, used: usize, plan: &[u8]) -> usize {
-    let mut at = put(out, used, b"write 0 ");
-    at = put_hex(out, at, plan);
-    put_byte(out, at, 10)
-}
-
-// A desk on a plan that was written, with a fresh state.
-fn written_of(desk: Desk, plan: &[u8], length: usize, out: &mut Out) -> Desk {
-    if length <= plan.len() {
-        let used = put_written(out, desk.used, &plan[0..length]);
-        let loaded = machine::load(&plan[0..length]);
-        return fresh(desk, loaded, length, used);
-    }
-    desk
+fn put_written(out: &mut Out, plan: &[u8]) {
+    out.put(b"write 0 ");
+    out.put_hex(plan);
+    out.put_byte(b'\n');
 }
 
 // The plan that runs, by other names: nothing but these changes.
-fn renamed(
-    desk: Desk,
-    text: &[u8],
-    plan: &[u8],
-    length: usize,
-    names: &mut [u8; 16896],
-    out: &mut Out,
-) -> Desk {
-    if length <= plan.len() {
-        sheet::names_of(text, names);
-        let used = put_written(out, desk.used, &plan[0..length]);
-        return refused(desk, used, 2000);
-    }
-    desk
+fn renamed(desk: &mut Desk, text: &[u8], plan: &[u8]) {
+    sheet::names_of(text, &mut desk.names);
+    put_written(&mut desk.out, plan);
+    desk.said = Said::Renamed;
 }
 
 // Whether a plan that was written runs already.
 fn is_running(state: State, plan: &[u8; 4096], length: usize) -> bool {
-    if state.length == length {
-        let running = state.plan;
-        return is_same_plan(&running, plan, length);
-    }
-    false
+    state.length == length && is_same(&state.plan, plan, length)
 }
 
 // A plan that was written, where the desk speaks to a person: what runs is not dropped by the way.
-fn written_with_care(
-    desk: Desk,
-    text: &[u8],
-    plan: &[u8; 4096],
-    length: usize,
-    number: u64,
-    bytes: &mut [u8; 8000],
-    names: &mut [u8; 16896],
-    out: &mut Out,
-) -> Desk {
-    let state = desk.state;
-    if is_running(state, plan, length) {
-        return renamed(desk, text, plan, length, names, out);
+fn written_with_care(desk: &mut Desk, text: &[u8], plan: &[u8; 4096], length: usize, number: u64) {
+    if is_running(desk.state, plan, length) {
+        renamed(desk, text, first(plan, length));
+    } else if is_braked(desk) {
+        braked(desk, number, b"write");
+    } else {
+        written(desk, text, plan, length);
     }
-    if is_braked(desk) {
-        return braked(desk, number, b"write", out);
-    }
-    written(desk, text, plan, length, bytes, names, out)
 }
 
-fn written(
-    desk: Desk,
-    text: &[u8],
-    plan: &[u8; 4096],
-    length: usize,
-    bytes: &mut [u8; 8000],
-    names: &mut [u8; 16896],
-    out: &mut Out,
-) -> Desk {
-    copied(plan, bytes);
-    sheet::names_of(text, names);
-    written_of(desk, plan, length, out)
+// A plan that was written is the last plan from then on, with a fresh state.
+fn written(desk: &mut Desk, text: &[u8], plan: &[u8; 4096], length: usize) {
+    copied(plan, &mut desk.bytes);
+    sheet::names_of(text, &mut desk.names);
+    put_written(&mut desk.out, first(plan, length));
+    fresh(desk, length);
 }
 
 fn answer_of(rows: &[u32], length: usize, plan: &mut [u8; 4096]) -> Answer {
     if length <= rows.len() {
         return writer::write(&rows[0..length], plan);
     }
-    Answer::Refused {
+    Err(Refusal {
         number: 2,
         place: 0,
-    }
+    })
 }
 
 // A text that is refused, and, for a person, by which rule where that is not told by the number.
-fn ruled(
-    desk: Desk,
-    text: &[u8],
-    rows: &[u32; 87100],
-    lines: &[u32; 4355],
-    row: usize,
-    out: &mut Out,
-) -> Desk {
-    if desk.said != 5 {
-        return desk;
+fn ruled(desk: &mut Desk, text: &[u8], rows: &[u32; 87100], lines: &[u32; 4355], row: usize) {
+    if desk.spoken && desk.said == Said::Refused(5) {
+        desk.out.go_on();
+        put_rule(&mut desk.out, text, rows, lines, row);
+        desk.out.put_byte(b'\n');
     }
-    if !desk.spoken {
-        return desk;
-    }
-    let mut at = unended(out, desk.used);
-    at = put_rule(out, at, text, rows, lines, row);
-    at = put_byte(out, at, 10);
-    shown(desk, at)
 }
 
 // The rows of a text are written.
 fn write_rows(
-    desk: Desk,
+    desk: &mut Desk,
     text: &[u8],
     number: u64,
     rows: &[u32; 87100],
     length: usize,
     lines: &[u32; 4355],
-    bytes: &mut [u8; 8000],
-    names: &mut [u8; 16896],
-    out: &mut Out,
-) -> Desk {
+) {
     let mut plan = [0u8; 4096];
     let a = answer_of(rows, length, &mut plan);
     match a {
-        Answer::Wrote { length } => {
+        Ok(length) => {
             if desk.spoken {
-                return written_with_care(desk, text, &plan, length, number, bytes, names, out);
+                written_with_care(desk, text, &plan, length, number);
+            } else {
+                written(desk, text, &plan, length);
             }
-            written(desk, text, &plan, length, bytes, names, out)
         }
-        Answer::Refused {
-            number: refusal,
-            place,
-        } => {
+        Err(
+            Refusal {
+                number: refusal,
+                place,
+            },
+        ) => {
+            desk.answer(refusal);
             if refusal == 21 {
-                let used = put_disagreeing(text, number, rows, lines, place, out, desk.used);
-                return refused(desk, used, refusal);
+                put_disagreeing(text, number, rows, lines, place, &mut desk.out);
+            } else {
+                let line = line_after(number, line_of(lines, place));
+                desk.out.put_pair(b"write", wide(refusal), line);
+                ruled(desk, text, rows, lines, place);
             }
-            let line = line_after(number, line_of(lines, place));
-            let used = put_pair(out, desk.used, b"write", wide(refusal), line);
-            ruled(refused(desk, used, refusal), text, rows, lines, place, out)
         }
     }
 }
 
 // The plan that a text says becomes the last plan, with a fresh state; where it says none, what is wrong is told, and nothing changes. The text
 // begins in the line after `number`.
-pub fn write(
-    desk: Desk,
-    text: &[u8],
-    number: u64,
-    bytes: &mut [u8; 8000],
-    names: &mut [u8; 16896],
-    out: &mut Out,
-) -> Desk {
+pub fn write(desk: &mut Desk, text: &[u8], number: u64) {
     let mut rows = [0u32; 87100];
     let mut lines = [0u32; 4355];
     let r = sheet::read(text, &mut rows, &mut lines);
     match r {
-        Sheet::Rows { length } => write_rows(
-            desk, text, number, &rows, length, &lines, bytes, names, out,
-        ),
+        Sheet::Rows { length } => write_rows(desk, text, number, &rows, length, &lines),
         Sheet::Wrong {
             line,
             reason,
             place,
         } => {
-            let used = put_wrong(
-                out,
-                desk.used,
+            put_wrong(
+                &mut desk.out,
                 line_after(number, line as u64),
                 reason,
                 text,
                 place,
                 desk.spoken,
             );
-            failed(desk, used)
+            desk.fail();
         }
     }
 }

@@ -5,218 +5,165 @@ mod files;
 mod words;
 
 use commands::Trouble;
-use text::{Decimal, same, word_at};
-use words::verb_of;
+use files::name_of;
+use text::word_at;
+use words::{Verb, verb_of};
 
-// What a line asks for. `Nothing`: it is none of these, and the console answers it.
-#[derive(Clone, Copy)]
-pub enum What {
-    Nothing,
-    Wrong,
+// What a line asks for, with what it takes: a part of the line, or a number.
+#[derive(Clone, Copy, Debug, Drop)]
+pub enum What<'a> {
     Plain,
     Spoken,
     Quit,
     Help,
-    HelpOn,
+    HelpOn { word: &'a [u8] },
     Why,
-    WhyOne,
-    Go,
+    WhyOne { k: u32 },
+    Go { steps: u32 },
     CollectAll,
-    Drop,
-    OrderBy,
-    Plan,
-    Mend,
-    Save,
-    Open,
-    Page,
+    Drop { place: u32 },
+    OrderBy { variable: &'a [u8], value: u32 },
+    Plan { word: &'a [u8] },
+    Mend { word: &'a [u8] },
+    Save { name: &'a [u8] },
+    Open { name: &'a [u8] },
+    Page { name: &'a [u8] },
     Write,
 }
 
-// A line: whether it says `!`, which takes the brakes off; the word that it takes, from `from` to the place before `to`; its number, where it takes
-// one; and what is wrong with it. And whether it is a line that the console answers too, by numbers alone.
-#[derive(Clone, Copy)]
-pub struct Phrase {
-    pub what: What,
+// A line: whether it is one that the console answers too, by numbers alone; whether it says `!`, which takes the brakes off; and what it asks for, which
+// is nothing where it is none of these, and the console answers it.
+#[derive(Clone, Copy, Debug, Drop)]
+pub struct Phrase<'a> {
     pub old: bool,
     pub bold: bool,
-    pub from: usize,
-    pub to: usize,
-    pub number: u32,
-    pub why: Trouble,
-}
-
-pub(crate) fn said(what: What, bold: bool, from: usize, to: usize, number: u32) -> Phrase {
-    Phrase {
-        what,
-        old: false,
-        bold,
-        from,
-        to,
-        number,
-        why: Trouble::Unknown,
-    }
-}
-
-pub(crate) fn wrong(why: Trouble) -> Phrase {
-    Phrase {
-        what: What::Wrong,
-        old: false,
-        bold: false,
-        from: 0,
-        to: 0,
-        number: 0,
-        why,
-    }
-}
-
-fn nothing() -> Phrase {
-    said(What::Nothing, false, 0, 0, 0)
+    pub what: Result<Option<What<'a>>, Trouble>,
 }
 
 // A part of a line; none of it where it has no such part.
 pub fn part(line: &[u8], from: usize, to: usize) -> &[u8] {
-    if from <= to {
-        if to <= line.len() {
-            return &line[from..to];
-        }
+    if from <= to && to <= line.len() {
+        &line[from..to]
+    } else {
+        &line[..0]
     }
-    &line[0..0]
 }
 
 // Whether a word stands from a place on.
 pub fn has_more(line: &[u8], at: usize) -> bool {
+    !word_at(line, at).is_empty()
+}
+
+// The word from a place on, where there is one and no other after it.
+fn word_or_none(line: &[u8], at: usize) -> Result<Option<&[u8]>, Trouble> {
     let w = word_at(line, at);
-    w.from < w.to
+    if w.is_empty() {
+        Ok(None)
+    } else if has_more(line, w.to) {
+        Err(Trouble::Extra)
+    } else {
+        Ok(Some(part(line, w.from, w.to)))
+    }
+}
+
+pub(crate) fn one_word(line: &[u8], at: usize) -> Result<&[u8], Trouble> {
+    word_or_none(line, at)?.ok_or(Trouble::Missing)
+}
+
+// The number from a place on, where there is one.
+fn number_or_none(line: &[u8], at: usize) -> Result<Option<u32>, Trouble> {
+    match word_or_none(line, at)? {
+        Some(word) => Ok(Some(text::decimal_of(word)?)),
+        None => Ok(None),
+    }
 }
 
 // One that takes no word.
-fn alone(line: &[u8], at: usize, what: What, bold: bool) -> Phrase {
+fn alone<'a>(line: &[u8], at: usize, what: What<'a>) -> Result<What<'a>, Trouble> {
     if has_more(line, at) {
-        return wrong(Trouble::Extra);
+        Err(Trouble::Extra)
+    } else {
+        Ok(what)
     }
-    said(what, bold, 0, 0, 0)
-}
-
-// One that may take a word.
-fn with_word(line: &[u8], at: usize, what: What, other: What) -> Phrase {
-    let w = word_at(line, at);
-    if w.to <= w.from {
-        return said(what, false, 0, 0, 0);
-    }
-    if has_more(line, w.to) {
-        return wrong(Trouble::Extra);
-    }
-    said(other, false, w.from, w.to, 0)
-}
-
-fn numbered(what: What, word: &[u8]) -> Phrase {
-    let d = text::decimal_of(word);
-    match d {
-        Decimal::Value { value } => said(what, false, 0, 0, value),
-        Decimal::Large => wrong(Trouble::Large),
-        Decimal::Bad => wrong(Trouble::Unnumbered),
-    }
-}
-
-// One that may take a number, and has this one where it takes none.
-fn with_number(line: &[u8], at: usize, what: What, other: What, number: u32) -> Phrase {
-    let w = word_at(line, at);
-    if w.to <= w.from {
-        return said(what, false, 0, 0, number);
-    }
-    if has_more(line, w.to) {
-        return wrong(Trouble::Extra);
-    }
-    numbered(other, part(line, w.from, w.to))
-}
-
-// One that takes a number.
-fn with_one(line: &[u8], at: usize, what: What) -> Phrase {
-    let w = word_at(line, at);
-    if w.to <= w.from {
-        return wrong(Trouble::Missing);
-    }
-    if has_more(line, w.to) {
-        return wrong(Trouble::Extra);
-    }
-    numbered(what, part(line, w.from, w.to))
 }
 
 // `collect all`; a `collect` alone is the console's.
-fn collecting(line: &[u8], at: usize) -> Phrase {
+fn collecting(line: &[u8], at: usize) -> Result<Option<What<'_>>, Trouble> {
     let w = word_at(line, at);
-    if same(part(line, w.from, w.to), b"all") {
-        return alone(line, w.to, What::CollectAll, false);
+    match part(line, w.from, w.to) {
+        b"all" => Ok(Some(alone(line, w.to, What::CollectAll)?)),
+        _ => Ok(None),
     }
-    nothing()
 }
 
 // `order VARIABLE VALUE`; an `order SLOT` is the console's.
-fn ordering(line: &[u8], at: usize) -> Phrase {
+fn ordering(line: &[u8], at: usize) -> Result<Option<What<'_>>, Trouble> {
     let v = word_at(line, at);
-    let w = word_at(line, v.to);
-    if w.to <= w.from {
-        return nothing();
-    }
-    if has_more(line, w.to) {
-        return wrong(Trouble::Extra);
-    }
-    let mut p = numbered(What::OrderBy, part(line, w.from, w.to));
-    p.from = v.from;
-    p.to = v.to;
-    p
-}
-
-// A line that begins with one of these words, by the word's number.
-fn begun(line: &[u8], at: usize, verb: u32) -> Phrase {
-    match verb {
-        1 => alone(line, at, What::Plain, false),
-        2 => alone(line, at, What::Spoken, false),
-        3 => alone(line, at, What::Quit, false),
-        4 => alone(line, at, What::Quit, true),
-        5 => with_word(line, at, What::Help, What::HelpOn),
-        6 => with_number(line, at, What::Why, What::WhyOne, 0),
-        7 => with_number(line, at, What::Go, What::Go, 1000),
-        8 => collecting(line, at),
-        9 => ordering(line, at),
-        20 => with_one(line, at, What::Drop),
-        _ => kept(line, at, verb),
+    let variable = part(line, v.from, v.to);
+    match number_or_none(line, v.to)? {
+        Some(value) => Ok(Some(What::OrderBy { variable, value })),
+        None => Ok(None),
     }
 }
 
-// Of those on plans and files.
-fn kept(line: &[u8], at: usize, verb: u32) -> Phrase {
-    match verb {
-        10 => alone(line, at, What::Write, false),
-        11 => alone(line, at, What::Write, true),
-        12 => files::worded(line, at, What::Plan, false),
-        13 => files::worded(line, at, What::Plan, true),
-        14 => files::worded(line, at, What::Mend, false),
-        15 => files::worded(line, at, What::Mend, true),
-        16 => files::named(line, at, What::Save, false),
-        17 => files::named(line, at, What::Save, true),
-        18 => files::named(line, at, What::Open, false),
-        19 => files::named(line, at, What::Open, true),
-        21 => files::named(line, at, What::Page, false),
-        22 => files::named(line, at, What::Page, true),
-        _ => nothing(),
-    }
-}
-
-// Whether the console has a command of this number.
-fn is_old(verb: u32) -> bool {
-    match verb {
-        8 | 9 | 10 | 12 | 14 | 16 | 18 => true,
-        _ => false,
-    }
+// What a line asks for that begins with one of these words, of which `at` is the end.
+fn asked(verb: Verb, line: &[u8], at: usize) -> Result<Option<What<'_>>, Trouble> {
+    let what = match verb {
+        Verb::Plain => alone(line, at, What::Plain)?,
+        Verb::Spoken => alone(line, at, What::Spoken)?,
+        Verb::Quit { .. } => alone(line, at, What::Quit)?,
+        Verb::Write { .. } => alone(line, at, What::Write)?,
+        Verb::Collect => return collecting(line, at),
+        Verb::Order => return ordering(line, at),
+        Verb::Help => match word_or_none(line, at)? {
+            Some(word) => What::HelpOn { word },
+            None => What::Help,
+        },
+        Verb::Why => match number_or_none(line, at)? {
+            Some(k) => What::WhyOne { k },
+            None => What::Why,
+        },
+        Verb::Go => What::Go {
+            steps: number_or_none(line, at)?.unwrap_or(1000),
+        },
+        Verb::Drop => What::Drop {
+            place: number_or_none(line, at)?.ok_or(Trouble::Missing)?,
+        },
+        Verb::Plan { .. } => What::Plan {
+            word: one_word(line, at)?,
+        },
+        Verb::Mend { .. } => What::Mend {
+            word: one_word(line, at)?,
+        },
+        Verb::Save { .. } => What::Save {
+            name: name_of(line, at)?,
+        },
+        Verb::Open { .. } => What::Open {
+            name: name_of(line, at)?,
+        },
+        Verb::Page { .. } => What::Page {
+            name: name_of(line, at)?,
+        },
+    };
+    Ok(Some(what))
 }
 
 // What a line says.
-pub fn phrase_of(line: &[u8]) -> Phrase {
+pub fn phrase_of(line: &[u8]) -> Phrase<'_> {
     let w = word_at(line, 0);
-    let at = w.to;
-    let verb = verb_of(part(line, w.from, at));
-    let mut p = begun(line, at, verb);
-    p.old = is_old(verb);
-    p
+    match verb_of(part(line, w.from, w.to)) {
+        Some(verb) => {
+            let what = asked(verb, line, w.to);
+            Phrase {
+                old: verb.is_old(),
+                bold: verb.is_bold() && what.is_ok(),
+                what,
+            }
+        }
+        None => Phrase {
+            old: false,
+            bold: false,
+            what: Ok(None),
+        },
+    }
 }

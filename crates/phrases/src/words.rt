@@ -1,46 +1,77 @@
-// The words that a phrase begins with, by numbers.
-use text::same;
+// The words that a phrase begins with.
 
-// One number where this is the word, else another.
-fn either(w: &[u8], word: &[u8], verb: u32, other: u32) -> u32 {
-    if same(w, word) {
-        return verb;
+// Of those that may end in `!`, whether this one does.
+#[derive(Clone, Copy, PartialEq, Eq, Debug, Drop)]
+pub(crate) enum Verb {
+    Plain,
+    Spoken,
+    Quit { bold: bool },
+    Help,
+    Why,
+    Go,
+    Collect,
+    Drop,
+    Order,
+    Write { bold: bool },
+    Plan { bold: bool },
+    Mend { bold: bool },
+    Save { bold: bool },
+    Open { bold: bool },
+    Page { bold: bool },
+}
+
+impl Verb {
+    // Whether the console has a command of this word.
+    pub(crate) fn is_old(self) -> bool {
+        match self {
+            Verb::Collect | Verb::Order => true,
+            Verb::Write { bold }
+            | Verb::Plan { bold }
+            | Verb::Mend { bold }
+            | Verb::Save { bold }
+            | Verb::Open { bold } => !bold,
+            _ => false,
+        }
     }
-    other
+
+    pub(crate) fn is_bold(self) -> bool {
+        match self {
+            Verb::Quit { bold }
+            | Verb::Write { bold }
+            | Verb::Plan { bold }
+            | Verb::Mend { bold }
+            | Verb::Save { bold }
+            | Verb::Open { bold }
+            | Verb::Page { bold } => bold,
+            _ => false,
+        }
+    }
 }
 
-// Those that are no commands of the console.
-fn new_of(w: &[u8]) -> u32 {
-    let v = either(w, b"plain", 1, 0);
-    let v = either(w, b"spoken", 2, v);
-    let v = either(w, b"quit", 3, v);
-    let v = either(w, b"quit!", 4, v);
-    let v = either(w, b"help", 5, v);
-    let v = either(w, b"why", 6, v);
-    let v = either(w, b"drop", 20, v);
-    either(w, b"go", 7, v)
-}
-
-// Those of a command of the console that takes more here.
-fn old_of(w: &[u8], other: u32) -> u32 {
-    let v = either(w, b"collect", 8, other);
-    let v = either(w, b"order", 9, v);
-    let v = either(w, b"write", 10, v);
-    let v = either(w, b"write!", 11, v);
-    let v = either(w, b"plan", 12, v);
-    let v = either(w, b"plan!", 13, v);
-    let v = either(w, b"mend", 14, v);
-    either(w, b"mend!", 15, v)
-}
-
-// The number of a word, 0 where it is none of them.
-pub(crate) fn verb_of(w: &[u8]) -> u32 {
-    let v = new_of(w);
-    let v = old_of(w, v);
-    let v = either(w, b"save", 16, v);
-    let v = either(w, b"save!", 17, v);
-    let v = either(w, b"open", 18, v);
-    let v = either(w, b"open!", 19, v);
-    let v = either(w, b"page", 21, v);
-    either(w, b"page!", 22, v)
+pub(crate) fn verb_of(w: &[u8]) -> Option<Verb> {
+    match w {
+        b"plain" => Some(Verb::Plain),
+        b"spoken" => Some(Verb::Spoken),
+        b"quit" => Some(Verb::Quit { bold: false }),
+        b"quit!" => Some(Verb::Quit { bold: true }),
+        b"help" => Some(Verb::Help),
+        b"why" => Some(Verb::Why),
+        b"go" => Some(Verb::Go),
+        b"collect" => Some(Verb::Collect),
+        b"drop" => Some(Verb::Drop),
+        b"order" => Some(Verb::Order),
+        b"write" => Some(Verb::Write { bold: false }),
+        b"write!" => Some(Verb::Write { bold: true }),
+        b"plan" => Some(Verb::Plan { bold: false }),
+        b"plan!" => Some(Verb::Plan { bold: true }),
+        b"mend" => Some(Verb::Mend { bold: false }),
+        b"mend!" => Some(Verb::Mend { bold: true }),
+        b"save" => Some(Verb::Save { bold: false }),
+        b"save!" => Some(Verb::Save { bold: true }),
+        b"open" => Some(Verb::Open { bold: false }),
+        b"open!" => Some(Verb::Open { bold: true }),
+        b"page" => Some(Verb::Page { bold: false }),
+        b"page!" => Some(Verb::Page { bold: true }),
+        _ => None,
+    }
 }

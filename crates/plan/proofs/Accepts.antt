@@ -9,9 +9,8 @@ use Prim.Native.Nat.{ℕ, zero, suc, ◌+◌, ◌-◌, ◌≤◌, ◌<◌}
 use lib.ListN.{length, take, drop, length-append, length-drop, take-append-drop}
 use lib.Seq.{length-take-le, drop-drop, drop-append_seam}
 use lib.Dec.{ltb, leb, eqb}
-use Rattle.numbers.specs.Number.{number_at}
+use Rattle.numbers.specs.Number.{got, number_at}
 use Rattle.numbers.specs.Shortest.{shortest}
-use Rattle.numbers.specs.declared.Number.TheVariants.{Value}
 use Rattle.numbers.proofs.Laws.{shortest-is-read}
 use Rattle.plan.specs.Found.{Found, found, and_then, number_in, field_in, among}
 use Rattle.plan.specs.Read.{expression_code_in, operation_of, leaf_in, expression_in, variables_in, tuple_in, Head, head, exchange_in, arm_in, partner_in, held_send_in, asking_receive_in, with_expression_in, set_in, list_in, raise_in, namable, fault_number_in, is_code, is_scope_code, code_in, parts_in, head_in, many_in, numbered_head, numbered_in, numbered_scope_in, read_arm, later_of, read_act, start_form, correlation_in, version_in, root_in, read_any}
@@ -50,7 +49,7 @@ module _ {rest s : List ℕ} where
   ends {at = at} t = record { next = at; finds = refl; after = t }
 
 -- a number, at the place where its spelling starts
-number-at : (s r : List ℕ) (at v : ℕ) → at ≤ length s → drop at s ≡ shortest v ++ r → v ≤ 4294967295 → number_at s at ≡ Value v (at + length (shortest v))
+number-at : (s r : List ℕ) (at v : ℕ) → at ≤ length s → drop at s ≡ shortest v ++ r → v ≤ 4294967295 → number_at s at ≡ got v (at + length (shortest v))
 number-at s r at v i e h =
     let l : length (take at s) ≡ at = length-take-le at s i in
     let w : take at s ++ (shortest v ++ r) ≡ s = rw (← e) (take-append-drop at s) in

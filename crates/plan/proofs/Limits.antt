@@ -9,10 +9,12 @@ use mathlib.Core.List.{List, [], ◌∷◌, ◌++◌, append_assoc, append-nil}
 use Prim.Native.Nat.{ℕ, zero, suc, ◌+◌, ◌≤◌, ◌<◌}
 use lib.ListN.{length, length-append}
 use lib.Dec.{ltb, leb, eqb}
+use Rattle.std.specs.Prelude.{Result, Ok, Err}
 use Rattle.numbers.specs.Number.{number_at}
 use Rattle.numbers.specs.Shortest.{Bytes}
 use Rattle.numbers.specs.declared.Number.{Number}
-use Rattle.numbers.specs.declared.Number.TheVariants.{Value, Short, Bad}
+use Rattle.numbers.specs.declared.Trouble.{Trouble}
+use Rattle.numbers.specs.declared.Trouble.TheVariants.{Short, Bad}
 use Rattle.numbers.proofs.Laws.{value-bounds}
 use Rattle.plan.specs.Agree.{agree}
 use Rattle.plan.specs.Found.{Found, found, found_number, number_in, field_in, among}
@@ -28,10 +30,10 @@ use Rattle.plan.proofs.Spelled.{accepted-is-spelled}
 use Rattle.plan.proofs.Bounds.{act-numbered}
 use Rattle.plan.proofs.ByKind.{raise-allowed, last_code}
 
-small-number : (s : List ℕ) (at : ℕ) (r : Number) → number_at s at ≡ r → Finds (λ v next. v ≤ 4294967295) (found_number s at r)
-small-number s at Short e = finds-refused
-small-number s at Bad e = finds-refused
-small-number s at (Value v next) e = finds-found (value-bounds s at e).small
+small-number : (s : List ℕ) (at : ℕ) (r : Result Number Trouble) → number_at s at ≡ r → Finds (λ v next. v ≤ 4294967295) (found_number s at r)
+small-number s at (Err Short) e = finds-refused
+small-number s at (Err Bad) e = finds-refused
+small-number s at (Ok r) e = finds-found (value-bounds s at e).small
 
 number-within : (s : List ℕ) (at : ℕ) → Finds (λ v next. v ≤ 4294967295) (number_in s at)
 unfolding number_in

@@ -7,9 +7,9 @@ use native.Mathlib.Omega.{arith}
 use borrow.Author.Tests.{lt-ltb, le-ltb, le-leb, lt-leb, eq-eqb, ne_eqb}
 use lib.Dec.{ltb, leb, eqb}
 use lib.ListN.{length}
-use Rattle.numbers.specs.Number.{number_at}
-use Rattle.numbers.specs.declared.Number.{Number}
-use Rattle.numbers.specs.declared.Number.TheVariants.{Value, Short, Bad}
+use Rattle.std.specs.Prelude.{Err}
+use Rattle.numbers.specs.Number.{got, number_at}
+use Rattle.numbers.specs.declared.Trouble.TheVariants.{Short, Bad}
 use Rattle.numbers.proofs.Laws.{value-bounds}
 use Rattle.plan.specs.declared.Field.{Field}
 use Rattle.plan.specs.declared.Field.TheVariants.{Got}
@@ -52,21 +52,21 @@ number-of-field s at least limit (Field.Refused number place) f = tt
 number-of-field s at least limit (Got value next) f = f.0
 
 -- `number_at`
-module _ {n : Number} (s : List ℕ) (at : ℕ) (e : n ≡ number_at s at) where
-  pub number_short : n ≡ Short → Field.Refused 2 (length s) ≡ field_of (number_in s at)
+module _ (s : List ℕ) (at : ℕ) where
+  pub number_short : Err Short ≡ number_at s at → Field.Refused 2 (length s) ≡ field_of (number_in s at)
   unfolding field_of number_in
-  number_short o = rw (sym e ∙ o)
+  number_short e = rw (← e)
 
-  pub number-bad : n ≡ Bad → Field.Refused 3 at ≡ field_of (number_in s at)
+  pub number-bad : Err Bad ≡ number_at s at → Field.Refused 3 at ≡ field_of (number_in s at)
   unfolding field_of number_in
-  number-bad o = rw (sym e ∙ o)
+  number-bad e = rw (← e)
 
-  pub number-value : {value next : ℕ} → n ≡ Value value next → Got value next ≡ field_of (number_in s at)
+  pub number-value : {value next : ℕ} → got value next ≡ number_at s at → Got value next ≡ field_of (number_in s at)
   unfolding field_of number_in
-  number-value o = rw (sym e ∙ o)
+  number-value e = rw (← e)
 
-  pub number-ahead : {value next : ℕ} → n ≡ Value value next → Ahead s at next
-  number-ahead o = let b = value-bounds s at (sym e ∙ o) in record { forward = b.forward; inside = b.inside }
+  pub number-ahead : {value next : ℕ} → got value next ≡ number_at s at → Ahead s at next
+  number-ahead e = let b = value-bounds s at (sym e) in record { forward = b.forward; inside = b.inside }
 
 -- an answer of one number that is handed on, and one that is refused for the value read
 module _ {r : Field} (g : Found ℕ) (f : ℕ → ℕ → Found ℕ) (e : r ≡ field_of g) where

@@ -9,10 +9,12 @@ use Prim.Native.Nat.{ℕ, zero, suc, ◌+◌, ◌≤◌, ◌<◌}
 use lib.ListN.{length, take, drop, length-append}
 use lib.Seq.{take-add, drop-drop}
 use lib.Dec.{ltb, leb, eqb}
-use Rattle.numbers.specs.Number.{number_at}
+use Rattle.std.specs.Prelude.{Result, Ok, Err}
+use Rattle.numbers.specs.Number.{got, number_at}
 use Rattle.numbers.specs.Shortest.{Bytes, shortest}
 use Rattle.numbers.specs.declared.Number.{Number}
-use Rattle.numbers.specs.declared.Number.TheVariants.{Value, Short, Bad}
+use Rattle.numbers.specs.declared.Trouble.{Trouble}
+use Rattle.numbers.specs.declared.Trouble.TheVariants.{Short, Bad}
 use Rattle.numbers.proofs.Laws.{read-ends, read-is-shortest, value-bounds, shortest-long}
 use Rattle.plan.specs.Found.{Found, found_number, number_in, field_in, among}
 use Rattle.plan.specs.Tree.{Exp, constant, variable, binary, Own, empty, to_partner, to_held, from_partner, from_asking, send, receive, set, raise, leave, choose, repeat, sequence, flow, pick, scope, arm, kind, numbers_of, Act, act, Acts, none, more, Plan, size, count, is_pick}
@@ -99,7 +101,7 @@ Standing s at numbers x = Finds (λ a next. Stands s at (numbers a) next) x
 abbrev pub one : ℕ → List ℕ
 one x = x ∷ []
 
-module _ (s : List ℕ) (at : ℕ) {v next : ℕ} (e : number_at s at ≡ Value v next) where
+module _ (s : List ℕ) (at : ℕ) {v next : ℕ} (e : number_at s at ≡ got v next) where
   value-stands : Stands s at (v ∷ []) next
   unfolding spell
   value-stands = record {
@@ -108,10 +110,10 @@ module _ (s : List ℕ) (at : ℕ) {v next : ℕ} (e : number_at s at ≡ Value 
     spells = λ y. rw append-nil (read-is-shortest s at y e).spells;
   }
 
-found_number_lem : (s : List ℕ) (at : ℕ) (r : Number) → number_at s at ≡ r → Standing s at one (found_number s at r)
-found_number_lem s at Short e = finds-refused
-found_number_lem s at Bad e = finds-refused
-found_number_lem s at (Value v next) e = finds-found (value-stands s at e)
+found_number_lem : (s : List ℕ) (at : ℕ) (r : Result Number Trouble) → number_at s at ≡ r → Standing s at one (found_number s at r)
+found_number_lem s at (Err Short) e = finds-refused
+found_number_lem s at (Err Bad) e = finds-refused
+found_number_lem s at (Ok r) e = finds-found (value-stands s at e)
 
 pub number-stands : (s : List ℕ) (at : ℕ) → Standing s at one (number_in s at)
 unfolding number_in

@@ -6,24 +6,23 @@ ghost use Rattle.plan.specs.Found.{refused, number_in, field_in};
 ghost use Rattle.plan.specs.Read.{variables_in, tuple_in};
 
 use super::{Field, Tuple, reading};
-use numbers::Number;
+use numbers::{Number, Trouble};
 
 // The number at `at`.
 pub(crate) fn number_at(s: &[u8], at: usize) -> Field
     ensures is { result ≡ field_of (number_in s.now at) }
     ensures fits { NumberFits s.now at result }
 {
-    let read = reading::read(s, at);
-    match read {
-        Number::Short => Field::Refused {
+    match reading::read(s, at) {
+        Ok(Number { value, next }) => Field::Got { value, next },
+        Err(Trouble::Short) => Field::Refused {
             number: 2,
             place: s.len(),
         },
-        Number::Bad => Field::Refused {
+        Err(Trouble::Bad) => Field::Refused {
             number: 3,
             place: at,
         },
-        Number::Value { value, next } => Field::Got { value, next },
     }
 }
 

@@ -8,21 +8,21 @@ use mathlib.Core.Bool.{Bool, true, false, cond, not, ◌&&◌, ◌||◌, false�
 use mathlib.Core.List.{List, [], ◌∷◌, ◌++◌, append_assoc, append-nil}
 use Prim.Native.Nat.{ℕ, zero, suc, ◌+◌, ◌*◌, ◌-◌, ◌/◌, ◌≤◌, ◌<◌}
 use lib.Dec.{eqb, ltb, leb}
-use lib.ListN.{length, get_or, take, drop, replicate, length-append, length-replicate, length-drop}
+use lib.ListN.{length, get_or, take, drop, replicate, length-append, length-drop}
 use lib.Seq.{drop-cons, drop-drop, drop_at, take-append_seam, take-take, drop-append_seam, get_or-append_seam, get_or-take, get_or-drop}
-use Rattle.plan.specs.Found.{Found, refused, found, and_then, among}
-use Rattle.plan.specs.Read.{operation_of, Head, head, numbered_head, namable, is_code, is_scope_code, many_in, Numbered, also_numbered, later_of, start_form}
+use Rattle.plan.specs.Found.{found, among}
+use Rattle.plan.specs.Read.{operation_of, head, numbered_head, namable, is_code, is_scope_code, many_in, later_of, start_form}
 use Rattle.plan.specs.Spell.{operation_code, exchange_numbers, gaps_of, gap, later, spelling}
 use Rattle.plan.specs.Tree.{Operation, sum, difference, equal, less, Exp, constant, variable, binary, Own, empty, to_partner, to_held, from_partner, from_asking, send, receive, set, raise, leave, choose, repeat, sequence, flow, pick, scope, arm, is_scope, is_pick, numbers_of, Act, act, Acts, none, more, Plan, size, sizes, count}
-use Rattle.plan.specs.Agree.{asked_from, agree, judged}
+use Rattle.plan.specs.Agree.{asked_from, agree}
 use Rattle.plan.specs.Within.{expression_within, variables_within, exchange_within, from1, numbers_each, numbers_within, own_within, act_within, acts_within, ascending, plan_within}
 use Rattle.plan.proofs.Accepts.{both, Apart, apart-first, apart_more}
 use Rattle.plan.proofs.ByKind.{raise-limits, ByNumber, plain, numbered, by_number, early-code}
 use Rattle.writer.specs.Rows as rows
 use Rattle.writer.specs.Rows.{line, lines, expression_rows, own_rows, act_rows, acts_rows, plan_rows, rows_of}
 use Rattle.plan.proofs.Agreeing.{judged-agrees}
-use Rattle.writer.specs.Reading.{cell, zeros, shaped, tuple, row_in, expression_fits, expression_head, expression_at, exchange_fits, last_of, arm_at, code_at, parts_fit, with_expression, parts_at, head_at, count_at, fault_number_at, numbered_at, numbered_scope_at, whole_at, arm_with, reads_at, act_at, root_at, head_fits, plan_at, in_rows, agreed_at, read_rows}
-use Rattle.writer.proofs.Lines.{Row, Stands, nil, cons, stands-append, cells-cons, four-cells, line-long}
+use Rattle.writer.specs.Reading.{cell, zeros, shaped, tuple, row_in, expression_fits, expression_head, expression_at, exchange_fits, last_of, arm_at, code_at, parts_fit, with_expression, parts_at, head_at, count_at, fault_number_at, numbered_at, numbered_scope_at, arm_with, reads_at, act_at, root_at, head_fits, plan_at, in_rows, agreed_at, read_rows}
+use Rattle.writer.proofs.Lines.{Row, Stands, nil, cons, cells-cons, four-cells, line-long}
 use Rattle.writer.proofs.RowStands.{scope-rows}
 use Rattle.rows.proofs.SamePlaces.{rows_agree}
 

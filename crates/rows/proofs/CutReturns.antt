@@ -1,50 +1,20 @@
 -- The returns of the functions that cut a plan's bytes into rows. Assumes nothing.
-use borrow.Author.Tests.{eq-eqb, ne_eqb, lt-ltb, le-ltb}
 use native.Mathlib.Omega.{arith}
 use native.Mathlib.Nat.{add-zero}
-use native.Mathlib.Numerals.{add-one}
 use mathlib.Core.Path.{◌≡◌, refl, sym, ap, ◌∙◌}
 use mathlib.Core.Bool.{cond}
-use mathlib.Core.List.{List, [], ◌∷◌, ◌++◌}
-use lib.Dec.{eqb, ltb}
+use mathlib.Core.List.{List, append_assoc}
+use lib.Dec.{eqb}
 use Prim.Native.Nat.{ℕ, zero, suc, ◌+◌, ◌*◌, ◌-◌, ◌≤◌, ◌<◌}
-use lib.ListN.{length, get_or, set, replicate, length-set, length-append, length-replicate}
-use lib.Seq.{sets, length-sets}
+use lib.ListN.{length, set, take, drop, replicate, length-set, length-replicate, length-drop}
+use lib.Seq.{sets, sets-eq, length-sets, length-take-le, drop-drop}
+use borrow.Rule.Slice.PartMut.{put_mid}
 use mir.Syntax.{w64}
 use mir.Val.{Fits}
-use Rattle.numbers.specs.Number.{number_at}
-use Rattle.numbers.specs.declared.Number.{Number}
-use Rattle.numbers.specs.declared.Number.TheVariants.{Value, Short, Bad}
-use Rattle.writer.specs.Rows.{used, line, lines}
-use Rattle.rows.specs.Cut.{value_of, next_of, value_in, next_in, numbers_in, place_after, kind_in, count_in, place_in, kind_at, between_in, width_of, opens, row_width, due_after, k_after, cut_rows, head_width, cut_plan}
+use Rattle.writer.specs.Rows.{line, lines}
+use Rattle.rows.specs.Cut.{value_in, next_in, numbers_in, place_after, kind_in, count_in, between_in, row_width, due_after, k_after, cut_rows, head_width, cut_plan}
 use Rattle.writer.proofs.ByteReturns.{sets-append}
 use Rattle.writer.proofs.Lines.{line-long}
-
--- `taken_at`
-module _ (s : List ℕ) (at : ℕ) {n : Number} (e : n ≡ number_at s at) where
-  pub taken-value : {v next : ℕ} → n ≡ Value v next → v ≡ value_in s at
-  unfolding value_of
-  taken-value o = rw (← e, o)
-
-  pub taken_next : {v next : ℕ} → n ≡ Value v next → next ≡ next_in s at
-  unfolding next_of
-  taken_next o = rw (← e, o)
-
-  pub short-value : n ≡ Short → 0 ≡ value_in s at
-  unfolding value_of
-  short-value o = rw (← e, o)
-
-  pub short-next : n ≡ Short → at ≡ next_in s at
-  unfolding next_of
-  short-next o = rw (← e, o)
-
-  pub bad-value : n ≡ Bad → 0 ≡ value_in s at
-  unfolding value_of
-  bad-value o = rw (← e, o)
-
-  pub bad-next : n ≡ Bad → at ≡ next_in s at
-  unfolding next_of
-  bad-next o = rw (← e, o)
 
 -- `put_numbers`
 pub numbers-long : (left : ℕ) (s : List ℕ) (at : ℕ) → length (numbers_in left s at) ≡ left
@@ -84,29 +54,7 @@ module _ {s : List ℕ} {at left : ℕ} {out₀ : List ℕ} {base : ℕ} {out : 
       let y : base + (i + 1) ≡ suc (base + i) = omega arith in
       record { same = w.same ∙ rw (z, y, e, f); ends = w.ends ∙ rw (z, f); room = rw (length-set out (base + i) v) w.room }
 
--- `put_zeros`
-pub record Clearing (left : ℕ) (out₀ : List ℕ) (base : ℕ) (out : List ℕ) (i : ℕ) : Type 0 where
-  pub same : sets out₀ base (replicate left 0) ≡ sets out (base + i) (replicate (left - i) 0)
-  pub room : base + left ≤ length out
-
-pub clearing-starts : (left : ℕ) (out : List ℕ) (base : ℕ) → base + left ≤ length out → Clearing left out base out 0
-clearing-starts left out base h = let z : left - 0 ≡ left = omega arith in record { same = rw (z, add-zero base); room = h }
-
-module _ {left : ℕ} {out₀ : List ℕ} {base : ℕ} {out : List ℕ} {i : ℕ} (w : Clearing left out₀ base out i) where
-  pub clearing-done : left ≤ i → out ≡ sets out₀ base (replicate left 0)
-  clearing-done h = let z : left - i ≡ 0 = omega arith in sym (w.same ∙ rw z)
-
-  pub clearing-long : left ≤ i → length out ≡ length out₀
-  clearing-long h = ap length (clearing-done h) ∙ length-sets out₀ base (replicate left 0)
-
-  pub clearing-inside : i < left → base + i < length out
-  clearing-inside h = omega (arith, w.room)
-
-  pub clearing-again : i < left → Clearing left out₀ base (set out (base + i) 0) (i + 1)
-  clearing-again h =
-      let z : left - i ≡ suc (left - (i + 1)) = omega arith in
-      let y : base + (i + 1) ≡ suc (base + i) = omega arith in
-      record { same = w.same ∙ rw (z, y); room = rw (length-set out (base + i) 0) w.room }
+pub ruleset putting = (putting-starts, putting-next, putting-done, putting-long, putting-inside)
 
 -- `put_row`: the count, the numbers and the zeros behind them are one row
 pub row_put : (s : List ℕ) (at width : ℕ) (out : List ℕ) (base : ℕ) {out₁ out₂ : List ℕ} → out₁ ≡ sets (set out base width) (base + 1) (numbers_in width s at)
@@ -118,61 +66,29 @@ row_put s at width out base e f =
     let a = rw l at (sets-append (set out base width) (suc base) (numbers_in width s at) (replicate (19 - width) 0)) in
     f ∙ rw (e, y, l) (sym a)
 
-module _ (out : List ℕ) (base width : ℕ) where
-  pub row_room : base + 20 ≤ length out → width ≤ 19 → base + 1 + width ≤ length (set out base width)
-  row_room h l = rw (length-set out base width) (omega arith)
+module _ (s : List ℕ) (at width : ℕ) (out : List ℕ) (base : ℕ) (room : base + 20 ≤ length out) (few : width ≤ 19) where
+  pub row_room : base + 1 + width ≤ length (set out base width)
+  row_room = rw (length-set out base width) (omega arith)
 
-  module _ (ns : List ℕ) {out₁ : List ℕ} (e : out₁ ≡ sets (set out base width) (base + 1) ns) where
+  module _ {out₁ : List ℕ} (e : out₁ ≡ sets (set out base width) (base + 1) (numbers_in width s at)) where
     pub row_kept : length out₁ ≡ length out
-    row_kept = ap length e ∙ length-sets (set out base width) (base + 1) ns ∙ length-set out base width
+    row_kept = ap length e ∙ length-sets (set out base width) (base + 1) (numbers_in width s at) ∙ length-set out base width
 
-    pub row-behind : base + 20 ≤ length out → width ≤ 19 → base + 1 + width + (19 - width) ≤ length out₁
-    row-behind h l = omega (arith, row_kept)
+    -- as many zeros as there is room for behind the numbers
+    pub row_filled : {ys : List ℕ} → ys ≡ replicate (length (take (base + 20 - (base + 1 + width)) (drop (base + 1 + width) out₁))) 0
+        → put_mid (base + 1 + width) (base + 20 - (base + 1 + width)) out₁ ys ≡ sets out base (line (numbers_in width s at))
+    row_filled {ys} f =
+        let n : base + 20 - (base + 1 + width) ≡ 19 - width = omega arith in
+        let l = length-replicate {A = ℕ} (19 - width) 0 in
+        let q : length (take (19 - width) (drop (base + 1 + width) out₁)) ≡ 19 - width =
+        length-take-le (19 - width) (drop (base + 1 + width) out₁) (omega (arith, length-drop (base + 1 + width) out₁, row_kept)) in
+        let zs : ys ≡ replicate (19 - width) 0 = rw (n, q) at f in
+        let g = rw (l, append_assoc) at (sets-eq (replicate (19 - width) 0) out₁ (base + 1 + width) (omega (arith, row_kept, l))) in
+        row_put s at width out base e (rw (n, zs, drop-drop (19 - width) (base + 1 + width) out₁) (sym g))
 
-    pub row-long : (ms : List ℕ) {out₂ : List ℕ} → out₂ ≡ sets out₁ (base + 1 + width) ms → length out₂ ≡ length out
-    row-long ms f = ap length f ∙ length-sets out₁ (base + 1 + width) ms ∙ row_kept
+pub ruleset row = (row_room, row_kept)
 
--- `kind_of`, `count_of`
-pub kind-there : (t : List ℕ) (k : ℕ) {x : ℕ} → k < 256 → x ≡ get_or t (k * 13) 0 → x ≡ kind_in t k
-unfolding kind_in
-kind-there t k h e = e ∙ rw (lt-ltb k 256 h)
-
-pub kind-beyond : (t : List ℕ) (k : ℕ) → 256 ≤ k → 0 ≡ kind_in t k
-unfolding kind_in
-kind-beyond t k h = rw (le-ltb k 256 h)
-
-pub count-there : (t : List ℕ) (k : ℕ) {x : ℕ} → k < 256 → x ≡ get_or t (k * 13 + 3) 0 → x ≡ count_in t k
-unfolding count_in
-count-there t k h e = e ∙ rw (lt-ltb k 256 h)
-
-pub count-beyond : (t : List ℕ) (k : ℕ) → 256 ≤ k → 0 ≡ count_in t k
-unfolding count_in
-count-beyond t k h = rw (le-ltb k 256 h)
-
--- `place_of`, `kind_at`
-pub place-there : (t : List ℕ) (k : ℕ) {x : ℕ} → k < 256 → x ≡ get_or t (k * 13 + 10) 0 → x ≡ place_in t k
-unfolding place_in
-place-there t k h e = e ∙ rw (lt-ltb k 256 h)
-
-pub place-beyond : (t : List ℕ) (k : ℕ) → 256 ≤ k → 0 ≡ place_in t k
-unfolding place_in
-place-beyond t k h = rw (le-ltb k 256 h)
-
-module _ (t : List ℕ) (k at : ℕ) {place : ℕ} (e : place ≡ place_in t k) where
-  pub kind-number : at < place → 0 ≡ kind_at t k at
-  kind-number h = rw (lt-ltb at (place_in t k) (omega (arith, e)))
-
-  pub kind-own : place ≤ at → {x : ℕ} → x ≡ kind_in t k → x ≡ kind_at t k at
-  kind-own h f = f ∙ rw (le-ltb at (place_in t k) (omega (arith, e)))
-
--- `between_of`, `between`
-module _ (t : List ℕ) (k : ℕ) {x : ℕ} (e : x ≡ kind_in t k) where
-  pub between-some : x ≡ 14 → {n : ℕ} → n ≡ count_in t k → n + 1 ≡ cond (eqb (kind_in t k) 14) (count_in t k + 1) 0
-  between-some h f = rw (← e, h, f)
-
-  pub between_none : (x ≡ 14 → ⊥) → 0 ≡ cond (eqb (kind_in t k) 14) (count_in t k + 1) 0
-  between_none h = rw (← e, ne_eqb x 14 h)
-
+-- `between`
 pub record Summing (t : List ℕ) (left sum k : ℕ) : Type 0 where
   pub within : k ≤ left
   pub same : between_in left t 0 ≡ sum + between_in (left - k) t k
@@ -196,116 +112,7 @@ module _ {t : List ℕ} {left sum k : ℕ} (w : Summing t left sum k) where
   pub summing-fits : left ≤ 256 → k < left → {x : ℕ} → x ≤ 4294967296 → Fits w64 (sum + x)
   summing-fits h g l = omega (arith, w.few)
 
--- `width_of`
-module _ {kind : ℕ} (count : ℕ) where
-  pub width-send : {n : ℕ} → kind ≡ 1 → n ≡ used (4 + count) → n ≡ width_of kind count
-  unfolding width_of
-  width-send e f = f ∙ rw e
-
-  pub width-receive : {n : ℕ} → kind ≡ 2 → n ≡ used (4 + count) → n ≡ width_of kind count
-  unfolding width_of
-  width-receive e f = f ∙ rw e
-
-  pub width-held : {n : ℕ} → kind ≡ 17 → n ≡ used (5 + count) → n ≡ width_of kind count
-  unfolding width_of
-  width-held e f = f ∙ rw e
-
-  pub width-asking : {n : ℕ} → kind ≡ 18 → n ≡ used (5 + count) → n ≡ width_of kind count
-  unfolding width_of
-  width-asking e f = f ∙ rw e
-
-  pub width-arm : {n : ℕ} → kind ≡ 255 → n ≡ used (3 + count) → n ≡ width_of kind count
-  unfolding width_of
-  width-arm e f = f ∙ rw e
-
-  pub width-set : kind ≡ 3 → 2 ≡ width_of kind count
-  unfolding width_of
-  width-set e = rw e
-
-  pub width-sequence : kind ≡ 8 → 2 ≡ width_of kind count
-  unfolding width_of
-  width-sequence e = rw e
-
-  pub width-flow : kind ≡ 9 → 2 ≡ width_of kind count
-  unfolding width_of
-  width-flow e = rw e
-
-  pub width-pick : kind ≡ 10 → 2 ≡ width_of kind count
-  unfolding width_of
-  width-pick e = rw e
-
-  pub width-raise : kind ≡ 13 → 2 ≡ width_of kind count
-  unfolding width_of
-  width-raise e = rw e
-
-  pub width_code : (kind ≡ 1 → ⊥) → (kind ≡ 2 → ⊥) → (kind ≡ 3 → ⊥) → (kind ≡ 8 → ⊥) → (kind ≡ 9 → ⊥) → (kind ≡ 10 → ⊥) → (kind ≡ 13 → ⊥) → (kind ≡ 17 → ⊥) → (kind ≡ 18 → ⊥)
-      → (kind ≡ 255 → ⊥) → 1 ≡ width_of kind count
-  unfolding width_of
-  width_code a b c d e f g h i j =
-      rw (ne_eqb _ _ a, ne_eqb _ _ b, ne_eqb _ _ c, ne_eqb _ _ d, ne_eqb _ _ e, ne_eqb _ _ f, ne_eqb _ _ g, ne_eqb _ _ h, ne_eqb _ _ i, ne_eqb _ _ j)
-
--- `opens_of`
-module _ {kind : ℕ} where
-  pub opens-set : kind ≡ 3 → 1 ≡ opens kind
-  unfolding opens
-  opens-set e = rw e
-
-  pub opens-choose : kind ≡ 6 → 1 ≡ opens kind
-  unfolding opens
-  opens-choose e = rw e
-
-  pub opens-repeat : kind ≡ 7 → 1 ≡ opens kind
-  unfolding opens
-  opens-repeat e = rw e
-
-  pub opens-none : (kind ≡ 3 → ⊥) → (kind ≡ 6 → ⊥) → (kind ≡ 7 → ⊥) → 0 ≡ opens kind
-  unfolding opens
-  opens-none a b c = rw (ne_eqb _ _ a, ne_eqb _ _ b, ne_eqb _ _ c)
-
--- `width_at`, `due_after`, `k_after`
-module _ (s t : List ℕ) (k due at : ℕ) where
-  pub width-own : due ≡ 0 → {kind count n : ℕ} → kind ≡ kind_at t k at → count ≡ count_in t k → n ≡ width_of kind count → n ≡ row_width s t k due at
-  unfolding row_width
-  width-own z e f g = g ∙ rw (z, e, f)
-
-  pub due-own : due ≡ 0 → {kind n : ℕ} → kind ≡ kind_at t k at → n ≡ opens kind → n ≡ due_after s t k due at
-  unfolding due_after
-  due-own z e g = g ∙ rw (z, e)
-
-  module _ (z : due ≡ 0 → ⊥) {v : ℕ} (e : v ≡ value_in s at) where
-    pub width-leaf : v < 2 → 2 ≡ row_width s t k due at
-    unfolding row_width
-    width-leaf h = rw (ne_eqb _ _ z, ← e, lt-ltb v 2 h)
-
-    pub width-operation : 2 ≤ v → 1 ≡ row_width s t k due at
-    unfolding row_width
-    width-operation h = rw (ne_eqb _ _ z, ← e, le-ltb v 2 h)
-
-    pub due-leaf : v < 2 → due - 1 ≡ due_after s t k due at
-    unfolding due_after
-    due-leaf h = rw (ne_eqb _ _ z, ← e, lt-ltb v 2 h)
-
-    pub due-operation : 2 ≤ v → due + 1 ≡ due_after s t k due at
-    unfolding due_after
-    due-operation h = rw (ne_eqb _ _ z, ← e, le-ltb v 2 h)
-
-module _ (t : List ℕ) (k at : ℕ) {due : ℕ} where
-  pub k-own : due ≡ 0 → {place : ℕ} → place ≡ place_in t k → place ≤ at → k + 1 ≡ k_after t k due at
-  unfolding k_after
-  k-own z e h = rw (z, le-ltb at (place_in t k) (omega (arith, e)))
-
-  pub k-number : due ≡ 0 → {place : ℕ} → place ≡ place_in t k → at < place → k ≡ k_after t k due at
-  unfolding k_after
-  k-number z e h = rw (z, lt-ltb at (place_in t k) (omega (arith, e)))
-
-  pub k-same : (due ≡ 0 → ⊥) → k ≡ k_after t k due at
-  unfolding k_after
-  k-same z = rw (ne_eqb _ _ z)
-
--- `head_width`
-pub head-wide : (s : List ℕ) {a b c n : ℕ} → a ≡ next_in s 0 → b ≡ next_in s a → c ≡ value_in s b → n ≡ used (3 + c) → n ≡ head_width s
-unfolding head_width
-head-wide s e f g h = h ∙ rw (g, f, e)
+pub ruleset summing = (summing-starts, summing-fits)
 
 -- `put_parts`
 pub record Cutting (s t : List ℕ) (left from : ℕ) (out₀ out : List ℕ) (k due at i : ℕ) : Type 0 where
@@ -350,6 +157,8 @@ module _ {s t : List ℕ} {left from : ℕ} {out₀ out : List ℕ} {k due at i 
         some = omega (arith, w.some);
       }
 
+pub ruleset cutting = (cutting-starts, cutting-done, cutting-long, cutting-room, cutting-k, cutting-due)
+
 -- `put_rows`
 pub plan-put : (s t : List ℕ) (left : ℕ) (out : List ℕ) {width at : ℕ} {out₁ out₂ : List ℕ} → width ≡ head_width s → width ≤ 19 → at ≡ place_after width s 0
     → out₁ ≡ sets out 0 (line (numbers_in width s 0)) → out₂ ≡ sets out₁ 20 (lines (cut_rows left s t 0 0 at)) → out₂ ≡ sets out 0 (lines (cut_plan left s t))
@@ -359,3 +168,5 @@ plan-put s t left out {width} {at} e l a f g =
     let v : length x ≡ 20 = line-long (numbers_in width s 0) (omega (arith, numbers-long width s 0)) in
     let y : 20 ≡ 0 + length x = omega arith in
     g ∙ rw (f, ← e, ← a, y) (sym (sets-append out 0 x (lines (cut_rows left s t 0 0 at))))
+
+pub ruleset whole = (plan-put)

@@ -1,5 +1,5 @@
 -- What is cut from the bytes of an accepted plan are its rows. Assumes nothing.
-use borrow.Author.Tests.{eq-eqb, ne_eqb, lt-ltb, le-ltb, ltb-true, leb-true, eqb-true}
+use borrow.Author.Tests.{ne_eqb, lt-ltb, le-ltb, ltb-true, leb-true, eqb-true}
 use native.Mathlib.Omega.{arith}
 use native.Mathlib.Nat.{add-zero}
 use mathlib.Core.Path.{◌≡◌, refl, sym, ap, ◌∙◌}
@@ -8,10 +8,9 @@ use mathlib.Core.List.{List, [], ◌∷◌, ◌++◌, append_assoc, append-nil}
 use Prim.Native.Nat.{ℕ, zero, suc, ◌+◌, ◌*◌, ◌-◌, ◌≤◌, ◌<◌}
 use lib.Dec.{eqb, ltb, leb}
 use lib.ListN.{length, get_or, take, drop, length-append, length-drop, take-append-drop}
-use lib.Seq.{length-take-le, drop-append_seam, drop-drop, drop_at}
-use Rattle.numbers.specs.Number.{number_at}
+use lib.Seq.{length-take-le, drop-drop, drop_at}
+use Rattle.numbers.specs.Number.{got, number_at}
 use Rattle.numbers.specs.Shortest.{shortest}
-use Rattle.numbers.specs.declared.Number.TheVariants.{Value}
 use Rattle.numbers.proofs.Laws.{shortest-is-read, shortest-long}
 use Rattle.plan.specs.Found.{among}
 use Rattle.plan.specs.Read.{namable}
@@ -27,7 +26,7 @@ use Rattle.plan.proofs.Stands.{spell-append, spell-long}
 use Rattle.writer.specs.Rows as rows
 use Rattle.writer.specs.Rows.{used, expression_rows, own_rows, act_rows, acts_rows, plan_rows, rows_of}
 use Rattle.rows.specs.Cut.{value_of, next_of, value_in, next_in, numbers_in, place_after, kind_in, count_in, place_in, between_in, width_of, opens, row_width, due_after, k_after, cut_rows, head_width, cut_plan}
-use Rattle.rows.proofs.Completes.{Short, Limits, Exchange, exchange-of, ascending-few, short-plan, lines_long}
+use Rattle.rows.proofs.Completes.{Short, Limits, exchange-of, ascending-few, short-plan, lines_long}
 use Rattle.writer.proofs.Lines.{flat, flat_append, flat-own, flat-alone, flat-act, flat-plan}
 use Rattle.writer.proofs.RowsAsk.{alone-long}
 
@@ -61,7 +60,7 @@ module _ (s : List ℕ) (at x : ℕ) (ns : List ℕ) (e : drop at s ≡ spell (x
   unfolding spell
   whole = sym (take-append-drop at s) ∙ rw e
 
-  one-read : number_at s at ≡ Value x (at + length (shortest x))
+  one-read : number_at s at ≡ got x (at + length (shortest x))
   one-read = rw start at (rw (← whole) at (shortest-is-read (take at s) (spell ns) x small))
 
   pub one_value : value_in s at ≡ x

@@ -9,9 +9,8 @@ use Prim.Native.Nat.{ℕ, zero, suc, ◌+◌, ◌*◌, ◌-◌, ◌/◌, ◌≤�
 use lib.Dec.{eqb, ltb, leb}
 use lib.ListN.{length, take, drop, replicate, length-append, length-drop, take-append-drop}
 use lib.Seq.{length-take-le, drop-drop, drop_at}
-use Rattle.numbers.specs.Number.{groups, number_at}
+use Rattle.numbers.specs.Number.{got, groups, number_at}
 use Rattle.numbers.specs.Shortest.{shortest}
-use Rattle.numbers.specs.declared.Number.TheVariants.{Value}
 use Rattle.numbers.proofs.Laws.{shortest-is-read, shortest-long}
 use Rattle.plan.specs.Agree.{Asked, agrees_with, agree_after, agree, asked, asked_from, judged}
 use Rattle.plan.specs.Found.{Found, refused, found, and_then, number_in, field_in, among}
@@ -41,7 +40,7 @@ unfolding spell number_in
 number_read s q x ns e small =
     let l : length (take q s) ≡ q = length-take-le q s (omega (arith, length-drop q s, ap length e, length-append (shortest x) (spell ns), shortest-long x)) in
     let w : s ≡ take q s ++ (shortest x ++ spell ns) = sym (take-append-drop q s) ∙ rw e in
-    let n : number_at s q ≡ Value x (q + length (shortest x)) = rw l at (rw (← w) at (shortest-is-read (take q s) (spell ns) x small)) in
+    let n : number_at s q ≡ got x (q + length (shortest x)) = rw l at (rw (← w) at (shortest-is-read (take q s) (spell ns) x small)) in
     record {
       next = q + length (shortest x);
       is = rw n;

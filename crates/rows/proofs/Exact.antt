@@ -1,6 +1,6 @@
 -- Request 1's promises: what is written is accepted and reads back as the same table, and every accepted plan comes back byte for byte; of the
 -- definitions, and of the two public calls one after the other. Assumes nothing.
-use mathlib.Core.Path.{◌≡◌, refl, sym, ap, ◌∙◌}
+use mathlib.Core.Path.{◌≡◌, refl, sym}
 use mathlib.Core.List.{List}
 use Prim.Native.Nat.{ℕ, ◌+◌, ◌≤◌}
 use lib.ListN.{length, take, drop}
@@ -22,8 +22,9 @@ use Rattle.writer.specs.Reading.{plan_at, agreed_at, read_rows}
 use Rattle.writer.specs.Rows.{plan_rows, rows_of}
 use Rattle.writer.specs.Written.{answer_for, bytes_for, rows_answer, rows_for}
 use Rattle.writer.proofs.WriteReturns.{agreed-is-read}
-use Rattle.writer.specs.declared.Answer.{Answer}
-use Rattle.writer.specs.declared.Answer.TheVariants.{Wrote}
+use Rattle.std.specs.Prelude.{Result, Ok, Err}
+use Rattle.plan.specs.declared.Refusal.{Refusal}
+use Rattle.plan.specs.Answers.{refusal}
 use Rattle.rows.proofs.Completes.{rows-are-read}
 use Rattle.rows.proofs.TableLimits.{Words, read-is-within, read-agrees, written-is-accepted}
 use Rattle.rows.proofs.Tables.{read-is-rows}
@@ -50,7 +51,7 @@ accepted-comes-back s {p} y e = (rows-are-read p (accepted-is-within s e) (accep
 -- The public calls, one after the other.
 
 -- what is answered with a length is neither refused nor too long
-answered : (b : Bool) {long n : ℕ} → cond b (Answer.Refused 18 0) (Wrote long) ≡ Wrote n → (b ≡ false) × (long ≡ n)
+answered : (b : Bool) {long n : ℕ} → cond {A = Result ℕ Refusal} b (Err (refusal 18 0)) (Ok long) ≡ Ok n → (b ≡ false) × (long ≡ n)
 answered true e = let z : ◌≡◌ {A = ℕ} 0 1 = cc in absurd (omega arith)
 answered false e = (refl, cc)
 
@@ -65,7 +66,7 @@ record Handed (g : Found Plan) (buffer : List ℕ) (n : ℕ) : Type 0 where
   is : g ≡ found p next
   table : take n (rows_for g buffer) ≡ rows_of p
 
-handed : (g : Found Plan) (buffer : List ℕ) {n : ℕ} → rows_answer g (length buffer) ≡ Wrote n → Handed g buffer n
+handed : (g : Found Plan) (buffer : List ℕ) {n : ℕ} → rows_answer g (length buffer) ≡ Ok n → Handed g buffer n
 unfolding rows_answer rows_for
 handed (refused number place) buffer e = let z : ◌≡◌ {A = ℕ} 0 1 = cc in absurd (omega arith)
 handed (found p next) buffer e =
@@ -79,7 +80,7 @@ record Spelt (g : Found Plan) (out : List ℕ) (n : ℕ) : Type 0 where
   is : g ≡ found p next
   bytes : take n (bytes_for g out) ≡ spelling p
 
-spelt : (g : Found Plan) (out : List ℕ) {n : ℕ} → answer_for g (length out) ≡ Wrote n → Spelt g out n
+spelt : (g : Found Plan) (out : List ℕ) {n : ℕ} → answer_for g (length out) ≡ Ok n → Spelt g out n
 unfolding answer_for bytes_for
 spelt (refused number place) out e = let z : ◌≡◌ {A = ℕ} 0 1 = cc in absurd (omega arith)
 spelt (found p next) out e =
@@ -87,8 +88,8 @@ spelt (found p next) out e =
     record { p = p; next = next; is = refl; bytes = rw (← l, b) (front out (spelling p) b) }
 
 -- What `rows` gives of bytes s is written as s again, into any buffer with room for it.
-pub rows-then-write : (s buffer out : List ℕ) {n : ℕ} → Bytes s → rows_answer (read_plan s) (length buffer) ≡ Wrote n → length s ≤ length out
-    → (answer_for (read_rows (take n (rows_for (read_plan s) buffer))) (length out) ≡ Wrote (length s))
+pub rows-then-write : (s buffer out : List ℕ) {n : ℕ} → Bytes s → rows_answer (read_plan s) (length buffer) ≡ Ok n → length s ≤ length out
+    → (answer_for (read_rows (take n (rows_for (read_plan s) buffer))) (length out) ≡ Ok (length s))
     × (bytes_for (read_rows (take n (rows_for (read_plan s) buffer))) out ≡ sets out 0 s)
 unfolding answer_for bytes_for
 rows-then-write s buffer out y e h =
@@ -97,8 +98,8 @@ rows-then-write s buffer out y e h =
     (rw (x.table, r, b, le-ltb (length out) (length s) h), rw (x.table, r, b, le-ltb (length out) (length s) h))
 
 -- What `write` makes of a table is given as that table again, into any buffer with room for it.
-pub write-then-rows : (t out buffer : List ℕ) {n : ℕ} → Words t → answer_for (read_rows t) (length out) ≡ Wrote n → length t ≤ length buffer
-    → (rows_answer (read_plan (take n (bytes_for (read_rows t) out))) (length buffer) ≡ Wrote (length t))
+pub write-then-rows : (t out buffer : List ℕ) {n : ℕ} → Words t → answer_for (read_rows t) (length out) ≡ Ok n → length t ≤ length buffer
+    → (rows_answer (read_plan (take n (bytes_for (read_rows t) out))) (length buffer) ≡ Ok (length t))
     × (rows_for (read_plan (take n (bytes_for (read_rows t) out))) buffer ≡ sets buffer 0 t)
 unfolding rows_answer rows_for
 write-then-rows t out buffer words e h =

@@ -1,13 +1,11 @@
 -- Whether receives agree does not depend on how places are counted. Assumes nothing.
-use mathlib.Core.Path.{◌≡◌, refl, sym, ap, ◌∙◌}
-use mathlib.Core.Bool.{Bool, true, false, cond, not, ◌&&◌, ◌||◌}
+use mathlib.Core.Path.{◌≡◌, refl}
 use mathlib.Core.List.{List, [], ◌∷◌, ◌++◌}
-use Prim.Native.Nat.{ℕ, ◌+◌}
-use lib.Dec.{eqb}
-use Rattle.plan.specs.Agree.{Asked, Places, in_bytes, asked_own, beyond, span_of, asked_in, asked_all, asked_from, asked, agrees, agrees_with, agree_after, agree}
+use Prim.Native.Nat.{ℕ}
+use Rattle.plan.specs.Agree.{Asked, Places, in_bytes, asked_own, beyond, asked_in, asked_all, asked_from, asked, agrees, agrees_with, agree_after, agree}
 use Rattle.plan.specs.Spell.{gaps_of, later}
 use Rattle.plan.specs.Table.{body_place}
-use Rattle.plan.specs.Tree.{Own, empty, send, receive, set, raise, leave, choose, repeat, sequence, flow, pick, scope, arm, numbers_of, Act, act, Acts, none, more, Plan, count}
+use Rattle.plan.specs.Tree.{Own, empty, send, receive, set, raise, leave, choose, repeat, sequence, flow, pick, scope, arm, numbers_of, Act, act, Acts, none, more, Plan}
 use Rattle.writer.specs.Reading.{in_rows}
 
 -- two ask for the same, whatever their places

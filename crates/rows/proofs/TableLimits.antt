@@ -1,19 +1,19 @@
 -- What a table is read as is within the limits of document 01, so that what is written of it is accepted. Assumes nothing.
-use borrow.Author.Tests.{ltb-true, ltb-false, leb-true, leb-false, eqb-true, eqb-false, lt-ltb, le-leb, eq-eqb, not-true}
+use borrow.Author.Tests.{ltb-false, leb-true, leb-false, eqb-true, lt-ltb, le-leb, eq-eqb, not-true}
 use native.Mathlib.Omega.{arith}
 use native.Mathlib.Numerals.{sub-one}
-use mathlib.Core.Path.{◌≡◌, refl, sym, ap, ◌∙◌}
-use mathlib.Core.Bool.{Bool, true, false, cond, not, ◌&&◌, ◌||◌, false≢true, and-true}
-use mathlib.Core.List.{List, [], ◌∷◌, ◌++◌}
-use Prim.Native.Nat.{ℕ, zero, suc, ◌+◌, ◌*◌, ◌-◌, ◌/◌, ◌≤◌, ◌<◌}
+use mathlib.Core.Path.{◌≡◌, refl, sym, ◌∙◌}
+use mathlib.Core.Bool.{Bool, true, false, cond, not, ◌&&◌, false≢true, and-true}
+use mathlib.Core.List.{List, [], ◌∷◌}
+use Prim.Native.Nat.{ℕ, zero, suc, ◌+◌, ◌*◌, ◌/◌, ◌≤◌, ◌<◌}
 use lib.Dec.{eqb, ltb, leb}
-use lib.ListN.{length, get_or, take, drop}
+use lib.ListN.{length, get_or}
 use Rattle.plan.specs.Agree.{asked_from, agree, judged}
 use Rattle.plan.specs.Found.{Found, refused, found, and_then, among}
-use Rattle.plan.specs.Read.{operation_of, Head, head, namable, is_code, is_scope_code, many_in, Numbered, later_of, start_form, read_plan}
+use Rattle.plan.specs.Read.{Head, is_code, is_scope_code, many_in, Numbered, later_of, start_form, read_plan}
 use Rattle.plan.specs.Spell.{spelling}
-use Rattle.plan.specs.Tree.{Exp, constant, variable, binary, Own, empty, to_partner, to_held, from_partner, from_asking, send, receive, set, raise, leave, choose, repeat, sequence, flow, pick, scope, arm, is_scope, is_pick, Act, act, Acts, none, more, Plan, size, sizes, count}
-use Rattle.plan.specs.Within.{expression_within, variables_within, exchange_within, from1, raise_within, numbers_each, numbers_within, own_within, levels_below, act_within, acts_within, ascending, plan_within}
+use Rattle.plan.specs.Tree.{Exp, Own, set, choose, repeat, is_scope, is_pick, Act, Plan, size, sizes, count}
+use Rattle.plan.specs.Within.{expression_within, variables_within, exchange_within, from1, raise_within, numbers_each, numbers_within, own_within, act_within, acts_within, ascending, plan_within}
 use Rattle.plan.proofs.Accepts.{both}
 use Rattle.plan.proofs.ByKind.{raise-allowed, last_code}
 use Rattle.plan.proofs.Agreeing.{judged-found, spelled-is-accepted}
@@ -21,13 +21,13 @@ use Rattle.plan.proofs.Bounds.{many-numbered}
 use Rattle.plan.proofs.Bounds as bounds
 use Rattle.plan.proofs.Limits.{Others, others-itself, others-more, numbers-allowed}
 use Rattle.plan.proofs.Finds.{Finds, finds-refused, finds-itself, finds-found, finds-cond, finds-code, finds-then, finds-so, finds-both, cond-case}
-use Rattle.plan.proofs.Stands.{Plain, HeadIs, plain, numbered, many-count}
-use Rattle.writer.specs.Reading.{cell, shaped, tuple, row_in, expression_fits, expression_head, expression_at, exchange_fits, last_of, stores_reply, arm_at, code_at, parts_fit, with_expression, parts_at, head_at, count_at, fault_number_at, numbered_at, numbered_scope_at, whole_at, arm_with, reads_at, act_at, root_at, head_fits, plan_at, in_rows, agreed_at, read_rows}
+use Rattle.plan.proofs.Stands.{HeadIs, plain, numbered, many-count}
+use Rattle.writer.specs.Reading.{cell, shaped, tuple, row_in, expression_fits, expression_head, expression_at, exchange_fits, last_of, stores_reply, arm_at, parts_fit, with_expression, parts_at, head_at, count_at, fault_number_at, numbered_at, numbered_scope_at, whole_at, arm_with, reads_at, act_at, root_at, head_fits, plan_at, in_rows, agreed_at, read_rows}
 use Rattle.writer.proofs.Lines.{tuple-long}
 use Rattle.writer.proofs.WriteReturns.{agreed-is-read}
-use Rattle.writer.proofs.OwnReturns.{There, row-finds, Coded, code-finds, head-is, arm_plain}
-use Rattle.writer.proofs.RowStands.{count-stands, number-stands, NumberedRows, node-numbered}
-use Rattle.writer.proofs.ExpressionReturns.{Noded, node-finds}
+use Rattle.writer.proofs.OwnReturns.{There, row-finds, code-finds, head-is, arm_plain}
+use Rattle.writer.proofs.RowStands.{count-stands, number-stands, node-numbered}
+use Rattle.writer.proofs.ExpressionReturns.{node-finds}
 use Rattle.rows.proofs.SamePlaces.{rows_agree}
 
 -- every number of the table is one of 32 bits, as in a slice of them

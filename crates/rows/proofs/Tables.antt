@@ -3,13 +3,13 @@ use borrow.Author.Tests.{eqb-true}
 use native.Mathlib.Omega.{arith}
 use native.Mathlib.Nat.{add-zero}
 use mathlib.Core.Path.{◌≡◌, refl, sym, ap, ◌∙◌}
-use mathlib.Core.Bool.{Bool, true, false, ◌&&◌}
-use mathlib.Core.List.{List, [], ◌∷◌, ◌++◌, append_assoc, append-nil}
-use Prim.Native.Nat.{ℕ, zero, suc, ◌+◌, ◌*◌, ◌-◌, ◌/◌, ◌≤◌, ◌<◌}
+use mathlib.Core.Bool.{true}
+use mathlib.Core.List.{List, ◌∷◌, ◌++◌, append_assoc, append-nil}
+use Prim.Native.Nat.{ℕ, zero, suc, ◌+◌, ◌*◌, ◌-◌, ◌≤◌}
 use lib.Dec.{eqb}
-use lib.ListN.{length, get_or, take, drop, replicate, take-append-drop, drop_of_length-le}
+use lib.ListN.{length, get_or, drop, replicate, take-append-drop, drop_of_length-le}
 use lib.Seq.{drop-cons, drop-drop}
-use Rattle.plan.specs.Found.{Found, refused, found, and_then}
+use Rattle.plan.specs.Found.{found}
 use Rattle.plan.specs.Tree.{Plan}
 use Rattle.plan.proofs.Accepts.{both}
 use Rattle.writer.specs.Rows.{line, lines, plan_rows, rows_of}

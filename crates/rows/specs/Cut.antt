@@ -1,22 +1,20 @@
 -- Glue: the rows of an accepted plan as they are cut from its bytes s, one after another: what the functions behind `rows` answer. Assumes nothing: these are
 -- definitions, and nothing here has to be believed. t is the plan's table, which tells the kind of each activity and arm, and so how many of the numbers are
 -- its row's.
-use Rattle.std.specs.Prelude.{ℕ, zero, suc, ◌+◌, ◌*◌, ◌-◌, cond, List, [], ◌∷◌, eqb, ltb, get_or}
+use Rattle.std.specs.Prelude.{ℕ, zero, suc, ◌+◌, ◌*◌, ◌-◌, cond, List, [], ◌∷◌, eqb, ltb, get_or, Result, Ok, Err}
 use Rattle.numbers.specs.Number.{number_at}
 use Rattle.numbers.specs.declared.Number.{Number}
-use Rattle.numbers.specs.declared.Number.TheVariants.{Value, Short, Bad}
+use Rattle.numbers.specs.declared.Trouble.{Trouble}
 use Rattle.writer.specs.Rows.{used}
 
 -- the number at a place and the place after it; in an accepted plan there is always one
-unfoldable pub value_of : Number → ℕ
-value_of (Value value next) = value
-value_of Short = 0
-value_of Bad = 0
+unfoldable pub value_of : Result Number Trouble → ℕ
+value_of (Ok r) = r.value
+value_of (Err e) = 0
 
-unfoldable pub next_of : (at : ℕ) → Number → ℕ
-next_of at (Value value next) = next
-next_of at Short = at
-next_of at Bad = at
+unfoldable pub next_of : (at : ℕ) → Result Number Trouble → ℕ
+next_of at (Ok r) = r.next
+next_of at (Err e) = at
 
 abbrev pub value_in : List ℕ → (at : ℕ) → ℕ
 value_in s at = value_of (number_at s at)

@@ -7,6 +7,7 @@ ghost use Rattle.std.specs.Prelude.{length, ◌≡◌};
 ghost use Rattle.plan.specs.Read.{read_plan};
 ghost use Rattle.writer.specs.Written.{rows_answer, rows_for};
 
+use plan::Refusal;
 use plan::table::LENGTH;
 use writer::Answer;
 
@@ -17,27 +18,14 @@ pub fn rows(s: &[u8], out: &mut [u32]) -> Answer
 {
     let mut table = [0u32; LENGTH];
     let mut correlation = [0u8; 16];
-    let a = plan::accept_over(s, &mut table, &mut correlation);
-    match a {
-        Err(plan::Refusal { number, place }) => Answer::Refused { number, place },
-        Ok(
-            plan::Accepted {
-                activities,
-                nodes,
-                ..
-            },
-        ) => {
-            let left = activities + nodes + cut::between(&table, activities);
-            if out.len() / 20 <= left {
-                return Answer::Refused {
-                    number: 18,
-                    place: 0,
-                };
-            }
-            cut::put_rows(s, &table, left, out);
-            Answer::Wrote {
-                length: (left + 1) * 20,
-            }
-        }
+    let plan = plan::accept_over(s, &mut table, &mut correlation)?;
+    let left = plan.activities + plan.nodes + cut::between(&table, plan.activities);
+    if out.len() / 20 <= left {
+        return Err(Refusal {
+            number: 18,
+            place: 0,
+        });
     }
+    cut::put_rows(s, &table, left, out);
+    Ok((left + 1) * 20)
 }

@@ -1,32 +1,33 @@
 // What each fault is called, by its number. docs/DESK.md has the same table, and tools/check-desk-doc holds the two to each other.
-use drawing::{Out, number_at, numbers_of, put, put_aligned, put_byte, put_fault_name, put_scope};
+use drawing::{Out, number_at, numbers_of, put_fault_name, put_scope};
 use plan::table::Table;
 
 // What a fault that no raise with a number makes is called.
-fn put_own(out: &mut Out, used: usize, fault: u8) -> usize {
+fn put_own(out: &mut Out, fault: u8) {
     match fault {
-        0 => put(out, used, b"a plain raise"),
-        1 => put(out, used, b"unbound variable"),
-        2 => put(out, used, b"sum too large"),
-        3 => put(out, used, b"difference below zero"),
-        4 => put(out, used, b"conflicting receive"),
-        5 => put(out, used, b"no such partner"),
-        _ => put(out, used, b"a fault"),
+        0 => out.put(b"a plain raise"),
+        1 => out.put(b"unbound variable"),
+        2 => out.put(b"sum too large"),
+        3 => out.put(b"difference below zero"),
+        4 => out.put(b"conflicting receive"),
+        5 => out.put(b"no such partner"),
+        _ => out.put(b"a fault"),
     }
 }
 
 // What the fault with this number is called; a raise with a number by the name that it may have.
-pub fn put_fault(out: &mut Out, used: usize, names: &[u8; 16896], fault: u8) -> usize {
+pub fn put_fault(out: &mut Out, names: &[u8; 16896], fault: u8) {
     if fault < 6 {
-        return put_own(out, used, fault);
+        put_own(out, fault);
+    } else {
+        put_fault_name(out, names, b"fault ", fault as u32);
     }
-    put_fault_name(out, used, names, b"fault ", fault as u32)
 }
 
 // Behind a colon, what was said to be of this fault.
-pub fn put_by_fault(out: &mut Out, used: usize, names: &[u8; 16896], fault: u8) -> usize {
-    let at = put(out, used, b": ");
-    put_fault(out, at, names, fault)
+pub fn put_by_fault(out: &mut Out, names: &[u8; 16896], fault: u8) {
+    out.put(b": ");
+    put_fault(out, names, fault);
 }
 
 // Whether a scope with this mark has faulted: it waits for its inner scopes, undoes, or runs its fault part, whichever it has chosen.
@@ -45,71 +46,43 @@ fn narrow(number: u32) -> u8 {
 }
 
 // The fault that fault part i of scope n, counted from 1, is for.
-fn put_by_part(
-    out: &mut Out,
-    used: usize,
-    names: &[u8; 16896],
-    table: &Table,
-    n: usize,
-    i: usize,
-) -> usize {
-    if 0 < i {
-        if i <= numbers_of(table, n) {
-            return put_by_fault(out, used, names, narrow(number_at(table, n, i - 1)));
-        }
+fn put_by_part(out: &mut Out, names: &[u8; 16896], table: &Table, n: usize, i: usize) {
+    if 0 < i && i <= numbers_of(table, n) {
+        put_by_fault(out, names, narrow(number_at(table, n, i - 1)));
     }
-    used
 }
 
 // The fault of scope n, by the fault part that it has chosen: one by number, or the general one, which says which of the engine's own faults it was. A scope that
 // faulted before its marks told it does not say.
-fn put_by_choice(
-    out: &mut Out,
-    used: usize,
-    names: &[u8; 16896],
-    table: &Table,
-    n: usize,
-    choice: u8,
-) -> usize {
+fn put_by_choice(out: &mut Out, names: &[u8; 16896], table: &Table, n: usize, choice: u8) {
     match choice {
-        9..=14 => put_by_fault(out, used, names, choice - 9),
-        15 => put(out, used, b": a number that it has no fault part for"),
-        _ => put_by_part(out, used, names, table, n, choice as usize),
+        9..=14 => put_by_fault(out, names, choice - 9),
+        15 => out.put(b": a number that it has no fault part for"),
+        _ => put_by_part(out, names, table, n, choice as usize),
     }
 }
 
 // Scope n, which has this mark and has faulted, and by which fault.
-pub fn put_scope_faulted(
-    out: &mut Out,
-    used: usize,
-    names: &[u8; 16896],
-    table: &Table,
-    n: usize,
-    mark: u8,
-) -> usize {
-    let mut at = put_scope(out, used, names, table, n);
-    at = put(out, at, b" faulted");
-    put_by_choice(out, at, names, table, n, mark / 16)
+pub fn put_scope_faulted(out: &mut Out, names: &[u8; 16896], table: &Table, n: usize, mark: u8) {
+    put_scope(out, names, table, n);
+    out.put(b" faulted");
+    put_by_choice(out, names, table, n, mark / 16);
 }
 
-fn put_row(out: &mut Out, used: usize, fault: u8) -> usize {
-    let mut at = put_aligned(out, used, fault as u64);
-    at = put(out, at, b"  ");
-    at = put_own(out, at, fault);
-    put_byte(out, at, 10)
+fn put_row(out: &mut Out, fault: u8) {
+    out.put_aligned(fault as u64);
+    out.put(b"  ");
+    put_own(out, fault);
+    out.put_byte(b'\n');
 }
 
 // All of them, a line for each, and a blank line.
-pub fn put_faults(out: &mut Out, used: usize) -> usize {
-    let mut at = put_row(out, used, 0);
-    at = put_row(out, at, 1);
-    at = put_row(out, at, 2);
-    at = put_row(out, at, 3);
-    at = put_row(out, at, 4);
-    at = put_row(out, at, 5);
-    put(
-        out,
-        at,
-        b" 16 to 255  a raise with this number: fault 16 to fault 255\n\n",
-    )
+pub fn put_faults(out: &mut Out) {
+    put_row(out, 0);
+    put_row(out, 1);
+    put_row(out, 2);
+    put_row(out, 3);
+    put_row(out, 4);
+    put_row(out, 5);
+    out.put(b" 16 to 255  a raise with this number: fault 16 to fault 255\n\n");
 }

@@ -2,7 +2,7 @@
 use mathlib.Core.Path.{◌≡◌, refl, sym, ap, ◌∙◌}
 use mathlib.Core.Bool.{Bool, true, false, cond, false≢true}
 use mathlib.Core.List.{List, [], ◌∷◌, ◌++◌, map, map-append, reverse, append_assoc, append-nil, reverse-append, reverse-cons, reverse-reverse}
-use Prim.Native.Nat.{ℕ, zero, suc, ◌+◌, ◌*◌, ◌<◌, ◌≤◌}
+use Prim.Native.Nat.{ℕ, zero, suc, ◌+◌, ◌<◌, ◌≤◌}
 use native.Mathlib.Numerals.{add-one}
 use native.Mathlib.Omega.{arith}
 use borrow.Author.Tests.{eq-eqb, ne_eqb, lt-ltb, le-ltb, ltb-true, ltb-false}
@@ -12,8 +12,7 @@ use Rattle.plan.specs.Tree.{Own, scope, kind, is_scope, has_undo, numbers_of, ge
 use Rattle.order.specs.declared.Closing.{Closing}
 use Rattle.order.specs.declared.Entered.{Entered}
 use Rattle.order.specs.declared.Order.{Order}
-use Rattle.order.specs.declared.Found.{Found}
-use Rattle.order.specs.declared.Found.TheVariants.{At, Nothing}
+use Rattle.std.specs.Prelude.{Option, Some, None}
 use Rattle.order.specs.declared.Spot.{Spot}
 use Rattle.order.specs.declared.Way.TheVariants.{Over}
 use Rattle.order.specs.declared.Went.{Went}
@@ -281,8 +280,8 @@ pub record Undoing (t : List ℕ) (z : Spot) (o₀ o : Order) : Type 0 where
 pub undoing-starts : (t : List ℕ) (z : Spot) (o : Order) → Undoing t z o o
 undoing-starts t z o = record { on = λ r x. x }
 
-module _ {t : List ℕ} {z : Spot} {o₀ o : Order} (w : Undoing t z o₀ o) {f : Found} (x : FindsLast z.body o f) where
-  pub undoing-done : f ≡ Nothing → UndoesList t z o₀ (record { way = Over; order = o })
+module _ {t : List ℕ} {z : Spot} {o₀ o : Order} (w : Undoing t z o₀ o) {f : Option ℕ} (x : FindsLast z.body o f) where
+  pub undoing-done : f ≡ None → UndoesList t z o₀ (record { way = Over; order = o })
   unfolding undo remembered_for list_of Last
   undoing-done e = w.on _ (record {
     is = λ b h.
@@ -290,7 +289,7 @@ module _ {t : List ℕ} {z : Spot} {o₀ o : Order} (w : Undoing t z o₀ o) {f 
         rw n;
   })
 
-  module _ {i : ℕ} (e : f ≡ At i) {r : Went} (y : StartsUndo t z o i r) {v : Bool} (q : v ≡ is_over r.way) where
+  module _ {i : ℕ} (e : f ≡ Some i) {r : Went} (y : StartsUndo t z o i r) {v : Bool} (q : v ≡ is_over r.way) where
     abbrev last : ℕ
     last = (get_or (closings o) i (closing_of 0 0)).scope
 
@@ -326,5 +325,5 @@ module _ {t : List ℕ} {z : Spot} {o₀ o : Order} (w : Undoing t z o₀ o) {f 
       });
     }
 
-pub found_inside : {q : ℕ} {o : Order} {f : Found} {i : ℕ} → FindsLast q o f → f ≡ At i → i < length (closings o)
+pub found_inside : {q : ℕ} {o : Order} {f : Option ℕ} {i : ℕ} → FindsLast q o f → f ≡ Some i → i < length (closings o)
 found_inside {i = i} x e = x.inside i e

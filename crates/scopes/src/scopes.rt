@@ -5,7 +5,7 @@ ghost use Rattle.order.specs.Answering.{ends_of, Handles, Undoes, Turns};
 use super::undoing::undo;
 use beginning::begin;
 use order::inside::inner_runs;
-use order::marks::{begun_in, choice_of, handling, is_over, marking, runs, undoing};
+use order::marks::{begun_in, choice_of, handling, marking, runs, undoing};
 use order::parts::chosen_row;
 use order::{Order, Spot, Way, Went, mark};
 use plan::table::Table;
@@ -14,10 +14,9 @@ use plan::table::Table;
 pub fn ends(spot: Spot, order: Order) -> Went
     ensures { result ≡ ends_of spot order }
 {
-    let o = marking(spot, mark::IDLE, order);
     Went {
         way: Way::Over,
-        order: o,
+        order: marking(spot, mark::IDLE, order),
     }
 }
 
@@ -27,14 +26,12 @@ fn handle(table: &Table, spot: Spot, order: Order) -> Went
 {
     let c = chosen_row(table, spot, choice_of(spot, order));
     let o = handling(spot, order);
-    let m = o.marks;
-    let r = begun_in(o, begin(table, c, m));
-    let w = r.way;
-    if is_over(w) {
-        let p = r.order;
-        return ends(spot, p);
+    let r = begun_in(o, begin(table, c, o.marks));
+    if r.way.is_over() {
+        ends(spot, r.order)
+    } else {
+        r
     }
-    r
 }
 
 // The scope undoes, and then runs its fault part.
@@ -43,12 +40,11 @@ fn undoes_handling(table: &Table, spot: Spot, order: Order) -> Went
 {
     let o = undoing(spot, order);
     let r = undo(table, spot, o);
-    let w = r.way;
-    if is_over(w) {
-        let p = r.order;
-        return handle(table, spot, p);
+    if r.way.is_over() {
+        handle(table, spot, r.order)
+    } else {
+        r
     }
-    r
 }
 
 // The scope undoes, and then ends.
@@ -57,12 +53,11 @@ fn undoes_ending(table: &Table, spot: Spot, order: Order) -> Went
 {
     let o = marking(spot, mark::WITHDRAWING, order);
     let r = undo(table, spot, o);
-    let w = r.way;
-    if is_over(w) {
-        let p = r.order;
-        return ends(spot, p);
+    if r.way.is_over() {
+        ends(spot, r.order)
+    } else {
+        r
     }
-    r
 }
 
 // The scope undoes: after its list it runs its fault part, or where it was stopped it ends.
@@ -70,18 +65,19 @@ pub fn undoes(table: &Table, faulted: bool, spot: Spot, order: Order) -> Went
     ensures { Undoes table.now faulted spot order result }
 {
     if faulted {
-        return undoes_handling(table, spot, order);
+        undoes_handling(table, spot, order)
+    } else {
+        undoes_ending(table, spot, order)
     }
-    undoes_ending(table, spot, order)
 }
 
 // The scope undoes where none of its inner scopes is left running.
 pub fn turns(table: &Table, faulted: bool, spot: Spot, order: Order) -> Went
     ensures { Turns table.now faulted spot order result }
 {
-    let m = order.marks;
-    if inner_runs(table, spot.body, spot.parts, m) {
-        return runs(order);
+    if inner_runs(table, spot.body, spot.parts, order.marks) {
+        runs(order)
+    } else {
+        undoes(table, faulted, spot, order)
     }
-    undoes(table, faulted, spot, order)
 }

@@ -14,20 +14,14 @@ use plan::table::Table;
 pub fn is_open(mark: u8) -> bool
     ensures { result ≡ is_open mark }
 {
-    if mark == mark::ACTIVE {
-        return true;
-    }
-    mark == mark::DONE
+    matches!(mark, mark::ACTIVE | mark::DONE)
 }
 
 // Scope k, whose body has stopped, turns to undoing.
 fn withdrawn(table: &Table, k: usize, order: Order) -> Order
     ensures { Withdraws table.now k order result }
 {
-    let spot = spot_at(table, k);
-    let r = turns(table, false, spot, order);
-    let o = r.order;
-    o
+    turns(table, false, spot_at(table, k), order).order
 }
 
 // The activity in row k stops, where there is one.
@@ -38,17 +32,15 @@ pub fn stop(table: &Table, k: usize, order: Order) -> Order
         return order;
     }
     let e = end_of(table, k);
-    let kind = kind_of(table, k);
-    if is_scope(kind) {
-        if is_open(mark_at(k, order)) {
-            if k + 1 < e {
-                let p = stop(table, k + 1, marked(k, mark::HALTED, order));
-                return withdrawn(table, k, p);
-            }
+    if is_scope(kind_of(table, k)) {
+        if is_open(mark_at(k, order)) && k + 1 < e {
+            let o = stop(table, k + 1, marked(k, mark::HALTED, order));
+            return withdrawn(table, k, o);
         }
         return order;
     }
     let mut o = marked(k, mark::IDLE, order);
+    // Stays: (d) the next place is told by the row itself, so no range has these places.
     let mut c = k + 1;
     while c < e {
         o = stop(table, c, o);

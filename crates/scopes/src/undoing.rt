@@ -5,11 +5,11 @@ ghost use Rattle.order.specs.State.{closings};
 
 use beginning::begin;
 use order::kind::has_undo;
-use order::marks::{begun_in, is_over};
-use order::memory::{entry, last_for, wide, without};
+use order::marks::begun_in;
+use order::memory::{entry, last_for, without};
 use order::parts::undo_row;
 use order::rows::{end_of, kind_of, spot_at};
-use order::{Entered, Found, Order, Spot, Way, Went};
+use order::{Entered, Order, Spot, Way, Went};
 use plan::kind;
 use plan::table::Table;
 
@@ -18,8 +18,7 @@ fn begin_part(table: &Table, e: usize, marks: [u8; 256]) -> Entered
     requires { e < 256 }
     ensures { BeginsPart table.now e marks result }
 {
-    let s = spot_at(table, e);
-    begin(table, undo_row(table, s), marks)
+    begin(table, undo_row(table, spot_at(table, e)), marks)
 }
 
 // The row where the rows end that are looked through for a scope in row j: those within it, and of a scope with no undo part those of its body.
@@ -28,9 +27,10 @@ fn looks_to(table: &Table, j: usize) -> usize
     ensures { LooksTo table.now j result }
 {
     if kind_of(table, j) == kind::OPEN_SCOPE {
-        return end_of(table, j + 1);
+        end_of(table, j + 1)
+    } else {
+        end_of(table, j)
     }
-    end_of(table, j)
 }
 
 // The undo part of scope e begins, where that stands in the rows `from` to `to` with no other scope around it there but such as have no undo part.
@@ -40,6 +40,7 @@ fn begin_undo(table: &Table, from: usize, to: usize, e: usize, marks: [u8; 256])
     if 256 < to {
         return Entered { marks, over: true };
     }
+    // Stays: (d) the next place, and where the loop ends, are told by the row itself, so no range has these places.
     let mut j = from;
     let mut end = to;
     while j < end {
@@ -66,10 +67,11 @@ fn start_undo(table: &Table, spot: Spot, order: Order, i: usize) -> Went
     ensures { StartsUndo table.now spot order i result }
 {
     let c = entry(order, i);
-    let e = wide(c.scope);
     let o = without(order, i);
-    let m = o.marks;
-    begun_in(o, begin_undo(table, spot.body, spot.parts, e, m))
+    begun_in(
+        o,
+        begin_undo(table, spot.body, spot.parts, usize::from(c.scope), o.marks),
+    )
 }
 
 // What is remembered for the scope is undone, the last first.
@@ -77,24 +79,15 @@ pub(crate) fn undo(table: &Table, spot: Spot, order: Order) -> Went
     ensures { UndoesList table.now spot order result }
 {
     let mut o = order;
-    loop {
-        let f = last_for(spot.body, o);
-        match f {
-            Found::Nothing => {
-                return Went {
-                    way: Way::Over,
-                    order: o,
-                };
-            }
-            Found::At(i) => {
-                let r = start_undo(table, spot, o, i);
-                let w = r.way;
-                if is_over(w) {
-                    o = r.order;
-                } else {
-                    return r;
-                }
-            }
+    while let Some(i) = last_for(spot.body, o) {
+        let r = start_undo(table, spot, o, i);
+        if !r.way.is_over() {
+            return r;
         }
+        o = r.order;
+    }
+    Went {
+        way: Way::Over,
+        order: o,
     }
 }

@@ -1,7 +1,7 @@
 -- A byte that is changed changes the seal: the lower half of a seal is the weight, which is the sum of the bytes below 2^32. Assumes nothing.
 use Prim.Native.Nat.{ℕ, ◌+◌, ◌*◌, ◌%◌, ◌<◌}
 use native.Mathlib.Omega.{arith}
-use mathlib.Core.Path.{◌≡◌, refl, sym, ◌∙◌, ap}
+use mathlib.Core.Path.{◌≡◌, sym, ◌∙◌, ap}
 use mathlib.Core.List.{List, [], ◌∷◌, ◌++◌}
 use Rattle.seal.specs.Sealed.{seal_from, seal_of, ChangeTold}
 

@@ -1,2 +1,2 @@
 mod Places
-mod ShowReads
+pub mod ShowReads

@@ -1,9 +1,10 @@
 -- Meaning: the part of a plan's bytes that `show` gives, where it starts, and the refusal. Assumes nothing: these are definitions.
-use Rattle.std.specs.Prelude.{ℕ, ◌+◌, cond, List, [], ltb, length, take, drop}
+use Rattle.std.specs.Prelude.{ℕ, ◌+◌, cond, List, [], ltb, length, take, drop, Result, Ok, Err}
 use Rattle.plan.specs.Found.{Found, refused, found}
 use Rattle.plan.specs.Spell.{spell, act_numbers}
 use Rattle.plan.specs.Spells.{Part, part_plan}
 use Rattle.plan.specs.Tree.{Plan, size}
+use Rattle.show.specs.declared.Shown.{Shown}
 
 -- the bytes of a part: from its place on, as many as spell its activity or arm
 abbrev pub bytes_of : Part → List ℕ → List ℕ
@@ -23,3 +24,16 @@ shown_start (found p next) k = cond (ltb k (size p.body + size p.fault)) (part_p
 unfoldable pub shown_refusal : Found Plan → (k : ℕ) → ℕ
 shown_refusal (refused number place) k = number
 shown_refusal (found p next) k = cond (ltb k (size p.body + size p.fault)) 0 16
+
+-- what an answer says: a refused show gives the empty part, which starts at 0
+abbrev pub part_of : Result Shown ℕ → List ℕ
+part_of (Ok x) = x.part.now
+part_of (Err n) = []
+
+abbrev pub start_of : Result Shown ℕ → ℕ
+start_of (Ok x) = x.start
+start_of (Err n) = 0
+
+abbrev pub refusal_of : Result Shown ℕ → ℕ
+refusal_of (Ok x) = 0
+refusal_of (Err n) = n

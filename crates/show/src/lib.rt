@@ -1,64 +1,46 @@
 // Shows an activity of a plan: document 01, "One call shows activity k of a plan". The public call is `show`.
 #![tactic(auto)]
 
-ghost use Rattle.std.specs.Prelude.{◌+◌, ◌*◌, ◌-◌, ◌≤◌, ◌<◌, length, get_or, take, drop, ◌≡◌};
+ghost use Rattle.std.specs.Prelude.{◌+◌, ◌*◌, ◌<◌, get_or, ◌≡◌};
 ghost use Rattle.plan.specs.Read.{read_plan};
-ghost use Rattle.show.specs.Shown.{shown_part, shown_start, shown_refusal};
+ghost use Rattle.show.specs.Shown.{part_of, start_of, refusal_of, shown_part, shown_start, shown_refusal};
 
+use plan::accept;
 use plan::table::{LENGTH, PLACE, STOP, Table, WIDTH};
-use plan::{Accepted, Refusal, accept};
 
-// A number of the table as a place.
-fn wide(x: u32) -> usize
-    ensures { result ≡ x }
-{
-    x as usize
+// The part of a plan that spells an activity or arm, and where it starts.
+#[derive(Clone, Copy, Debug, PartialEq, Eq)]
+pub struct Shown<'a> {
+    pub part: &'a [u8],
+    pub start: usize,
 }
 
-// Column j of row k.
+// Column j of row k, as a place.
 fn column(table: &Table, k: usize, j: usize) -> usize
-    requires { (k < 256) × (j < 13) }
+    requires row { k < 256 }
+    requires place { j < 13 }
     ensures { result ≡ get_or table.now (k * 13 + j) 0 }
 {
-    wide(table[k * WIDTH + j])
-}
-
-// The part of s from a to e.
-fn between(s: &[u8], a: usize, e: usize) -> &[u8]
-    requires { (a ≤ e) × (e ≤ length s.now) }
-    ensures { result.now ≡ take (e - a) (drop a s.now) }
-{
-    &s[a..e]
+    table[k * WIDTH + j] as usize
 }
 
 // Activity or arm k of the plan s, as the very part of s that spells it; 16 where there is no activity k, a bad plan's own number.
-// Where it refuses, the part is empty. A contract knows a returned part by its bytes alone, so where the part starts is lent out beside it.
-pub fn show<'a>(s: &'a [u8], k: usize, start: &mut usize, refusal: &mut u32) -> &'a [u8]
-    ensures part { result.now ≡ shown_part (read_plan s.now) s.now k }
-    ensures place { start.new ≡ shown_start (read_plan s.now) k }
-    ensures refused { refusal.new ≡ shown_refusal (read_plan s.now) k }
+#[tactic(auto, using(crate::proofs::ShowReads::showing), unfolding(plan::specs::Answers::answer_of, crate::specs::Shown::shown_part, crate::specs::Shown::shown_start, crate::specs::Shown::shown_refusal))]
+pub fn show<'a>(s: &'a [u8], k: usize) -> Result<Shown<'a>, u32>
+    ensures part { part_of result ≡ shown_part (read_plan s.now) s.now k }
+    ensures place { start_of result ≡ shown_start (read_plan s.now) k }
+    ensures refused { refusal_of result ≡ shown_refusal (read_plan s.now) k }
 {
     let mut table = [0u32; LENGTH];
     let mut correlation = [0u8; 16];
-    let a = accept(s, &mut table, &mut correlation);
-    match a {
-        Err(Refusal { number, .. }) => {
-            *start = 0;
-            *refusal = number;
-            between(s, 0, 0)
-        }
-        Ok(Accepted { activities, .. }) => {
-            if k < activities {
-                let from = column(&table, k, PLACE);
-                let to = column(&table, k, STOP);
-                *start = from;
-                *refusal = 0;
-                between(s, from, to)
-            } else {
-                *start = 0;
-                *refusal = 16;
-                between(s, 0, 0)
-            }
-        }
+    let plan = accept(s, &mut table, &mut correlation).map_err(|r| r.number)?;
+    if plan.activities <= k {
+        return Err(16);
     }
+    let start = column(&table, k, PLACE);
+    let stop = column(&table, k, STOP);
+    Ok(Shown {
+        part: &s[start..stop],
+        start,
+    })
 }

@@ -1,50 +1,45 @@
 // Why orders stand as they do.
-use drawing::{Out, put, put_error, put_next, put_refusal, unended};
+use drawing::Out;
 use order::Order;
-use papers::{Desk, failed, live_in, refused, shown};
+use papers::{Desk, live_in};
 
 // How many orders are live, and then each.
-fn put_asked(desk: Desk, only: usize, names: &[u8; 16896], out: &mut Out) -> Desk {
+fn put_asked(desk: &mut Desk, only: usize) {
     let state = desk.state;
     let orders = state.orders;
     if state.length == 0 {
-        let at = put_refusal(out, desk.used, b"why", 17);
-        let at = unended(out, at);
-        let used = sayings::put_refused(out, at, 17);
-        return refused(desk, used, 17);
+        desk.out.put_refusal(b"why", 17);
+        desk.out.go_on();
+        sayings::put_refused(&mut desk.out, 17);
+        desk.answer(17);
+        return;
     }
-    let mut at = put(out, desk.used, b"why");
-    at = put_next(out, at, live_in(orders) as u64);
-    at = put(out, at, b"\n");
-    let used = why::put_why(out, at, names, state, only);
-    shown(desk, used)
+    desk.out.put(b"why");
+    desk.out.put_next(live_in(orders) as u64);
+    desk.out.put(b"\n");
+    why::put_why(&mut desk.out, &desk.names, state, only);
 }
 
 // Of all orders, and of the messages that nobody takes.
-pub(crate) fn why(desk: Desk, names: &[u8; 16896], out: &mut Out) -> Desk {
-    put_asked(desk, 16, names, out)
+pub(crate) fn why(desk: &mut Desk) {
+    put_asked(desk, 16);
 }
 
 // Of the order in one slot.
-pub(crate) fn why_one(
-    desk: Desk,
-    slot: u32,
-    number: u64,
-    names: &[u8; 16896],
-    out: &mut Out,
-) -> Desk {
+pub(crate) fn why_one(desk: &mut Desk, slot: u32, number: u64) {
     if 15 < slot {
-        let used = put_error(out, desk.used, number, b"the slots are 0 to 15");
-        return failed(desk, used);
+        desk.out.put_error(number, b"the slots are 0 to 15");
+        desk.fail();
+        return;
     }
     let k = slot as usize;
     let state = desk.state;
     let orders = state.orders;
     if is_free(orders, k) {
-        let used = put_free(out, desk.used, k);
-        return shown(desk, used);
+        put_free(&mut desk.out, k);
+    } else {
+        put_asked(desk, k);
     }
-    put_asked(desk, k, names, out)
 }
 
 fn is_free(orders: [Order; 16], slot: usize) -> bool {
@@ -55,8 +50,8 @@ fn is_free(orders: [Order; 16], slot: usize) -> bool {
     true
 }
 
-fn put_free(out: &mut Out, used: usize, slot: usize) -> usize {
-    let mut at = put(out, used, b"why 0 - order");
-    at = put_next(out, at, slot as u64);
-    put(out, at, b" is free\n")
+fn put_free(out: &mut Out, slot: usize) {
+    out.put(b"why 0 - order");
+    out.put_next(slot as u64);
+    out.put(b" is free\n");
 }

@@ -1,42 +1,32 @@
 // Ways of answering, and help.
-use drawing::{Out, put, put_error};
-use papers::{Desk, failed, shown};
+use papers::Desk;
 
 // Numbers alone from now on.
-pub(crate) fn plain(desk: Desk, out: &mut Out) -> Desk {
-    let used = put(out, desk.used, b"plain\n");
-    let mut d = shown(desk, used);
-    d.spoken = false;
-    d
+pub(crate) fn plain(desk: &mut Desk) {
+    desk.out.put(b"plain\n");
+    desk.spoken = false;
 }
 
 // Words too.
-pub(crate) fn spoken(desk: Desk, out: &mut Out) -> Desk {
-    let used = put(out, desk.used, b"spoken\n");
-    let mut d = shown(desk, used);
-    d.spoken = true;
-    d
+pub(crate) fn spoken(desk: &mut Desk) {
+    desk.out.put(b"spoken\n");
+    desk.spoken = true;
 }
 
-pub(crate) fn help(desk: Desk, out: &mut Out) -> Desk {
-    let used = sayings::put_help(out, desk.used);
-    shown(desk, used)
+pub(crate) fn help(desk: &mut Desk) {
+    sayings::put_help(&mut desk.out);
 }
 
 // Help on a command, on refusals or on faults.
-pub(crate) fn help_on(desk: Desk, word: &[u8], number: u64, out: &mut Out) -> Desk {
+pub(crate) fn help_on(desk: &mut Desk, word: &[u8], number: u64) {
     if text::same(word, b"refusals") {
-        let used = sayings::put_refusals(out, desk.used);
-        return shown(desk, used);
+        sayings::put_refusals(&mut desk.out);
+    } else if text::same(word, b"faults") {
+        sayings::put_faults(&mut desk.out);
+    } else if sayings::has_help(word) {
+        sayings::put_help_on(&mut desk.out, word);
+    } else {
+        desk.out.put_error(number, b"no such command");
+        desk.fail();
     }
-    if text::same(word, b"faults") {
-        let used = sayings::put_faults(out, desk.used);
-        return shown(desk, used);
-    }
-    if sayings::has_help(word) {
-        let used = sayings::put_help_on(out, desk.used, word);
-        return shown(desk, used);
-    }
-    let used = put_error(out, desk.used, number, b"no such command");
-    failed(desk, used)
 }

@@ -10,233 +10,103 @@ mod moving;
 mod posting;
 mod viewing;
 
-use commands::{Alone, Command, Listed, Numbered};
-use drawing::Out;
+use commands::{Alone, Command, Listed, Numbered, Trouble};
 pub use keeping::{is_at_risk, put_risk, written};
-use papers::Desk;
-use phrases::{Phrase, What, part};
+use papers::{Desk, Said};
+use phrases::{Phrase, What};
 
 // A command that stands alone.
-fn answer_alone(
-    desk: Desk,
-    what: Alone,
-    line: &[u8],
-    number: u64,
-    bytes: &mut [u8; 8000],
-    names: &mut [u8; 16896],
-    out: &mut Out,
-) -> Desk {
+fn answer_alone(desk: &mut Desk, what: Alone, line: &[u8], number: u64) {
     match what {
-        Alone::Draw | Alone::Names => viewing::drawn(desk, line, number, bytes, names, out),
-        Alone::Check => papers::check(desk, bytes, names, out),
-        Alone::Collect => moving::collect(desk, names, out),
-        Alone::Waiting => viewing::waiting(desk, names, out),
-        Alone::Tally => viewing::tally(desk, out),
-        Alone::Offer => viewing::offer(desk, line, number, bytes, names, out),
-        Alone::Orders => viewing::planned(desk, b"orders", line, number, bytes, names, out),
-        Alone::Offers => viewing::planned(desk, b"offers", line, number, bytes, names, out),
-        Alone::Write => keeping::written(desk, b"", number, bytes, names, out),
+        Alone::Draw | Alone::Names => viewing::drawn(desk, line, number),
+        Alone::Check => papers::check(desk),
+        Alone::Collect => moving::collect(desk),
+        Alone::Waiting => viewing::waiting(desk),
+        Alone::Tally => viewing::tally(desk),
+        Alone::Offer => viewing::offer(desk, line, number),
+        Alone::Orders => viewing::planned(desk, b"orders", line, number),
+        Alone::Offers => viewing::planned(desk, b"offers", line, number),
+        Alone::Write => keeping::written(desk, b"", number),
     }
 }
 
 // A command with a number.
-fn answer_numbered(
-    desk: Desk,
-    what: Numbered,
-    k: u32,
-    line: &[u8],
-    number: u64,
-    bytes: &mut [u8; 8000],
-    names: &mut [u8; 16896],
-    out: &mut Out,
-) -> Desk {
+fn answer_numbered(desk: &mut Desk, what: Numbered, k: u32, line: &[u8], number: u64) {
     match what {
-        Numbered::Show => viewing::shown(desk, k, line, number, bytes, names, out),
-        Numbered::Step => moving::step(desk, k, names, out),
-        Numbered::Order => viewing::planned(desk, b"order", line, number, bytes, names, out),
+        Numbered::Show => viewing::shown(desk, k, line, number),
+        Numbered::Step => moving::step(desk, k),
+        Numbered::Order => viewing::planned(desk, b"order", line, number),
     }
 }
 
 // A command with numbers.
-fn answer_listed(
-    desk: Desk,
-    what: Listed,
-    line: &[u8],
-    from: usize,
-    number: u64,
-    names: &[u8; 16896],
-    out: &mut Out,
-) -> Desk {
+fn answer_listed(desk: &mut Desk, what: Listed, line: &[u8], from: usize, number: u64) {
     match what {
-        Listed::Post => posting::post(desk, line, from, number, names, out),
-        Listed::Run => moving::run(desk, line, from, number, names, out),
+        Listed::Post => posting::post(desk, line, from, number),
+        Listed::Run => moving::run(desk, line, from, number),
     }
 }
 
 // A command of the console, with words.
-fn told(
-    desk: Desk,
-    line: &[u8],
-    number: u64,
-    bytes: &mut [u8; 8000],
-    names: &mut [u8; 16896],
-    out: &mut Out,
-) -> Desk {
-    let c = commands::command_of(line);
-    match c {
-        Command::Nothing => desk,
-        Command::Wrong { why } => console::wrong(desk, number, why, out),
-        Command::Alone { what } => answer_alone(desk, what, line, number, bytes, names, out),
-        Command::Worded {
-            what: _,
-            from: _,
-            to: _,
-        } => desk,
-        Command::Numbered { what, k } => answer_numbered(
-            desk, what, k, line, number, bytes, names, out,
-        ),
-        Command::Listed { what, from } => answer_listed(desk, what, line, from, number, names, out),
+fn told(desk: &mut Desk, line: &[u8], number: u64) {
+    match commands::command_of(line) {
+        Ok(Command::Nothing) => {}
+        Ok(Command::Alone { what }) => answer_alone(desk, what, line, number),
+        Ok(Command::Worded { .. }) => {}
+        Ok(Command::Numbered { what, k }) => answer_numbered(desk, what, k, line, number),
+        Ok(Command::Listed { what, from }) => answer_listed(desk, what, line, from, number),
+        Err(why) => console::wrong(desk, number, why),
     }
 }
 
 // A command of the console, by numbers alone or with words.
-fn usual(
-    desk: Desk,
-    line: &[u8],
-    number: u64,
-    bytes: &mut [u8; 8000],
-    names: &mut [u8; 16896],
-    out: &mut Out,
-) -> Desk {
+fn usual(desk: &mut Desk, line: &[u8], number: u64) {
     if desk.spoken {
-        return told(desk, line, number, bytes, names, out);
-    }
-    console::answer(desk, line, number, bytes, names, out)
-}
-
-// A command on plans and files, of which this is the word behind it.
-fn kept(
-    desk: Desk,
-    what: What,
-    word: &[u8],
-    number: u64,
-    bytes: &mut [u8; 8000],
-    names: &mut [u8; 16896],
-    out: &mut Out,
-) -> Desk {
-    match what {
-        What::Plan => keeping::plan(desk, word, number, bytes, names, out),
-        What::Mend => keeping::mend(desk, word, number, bytes, names, out),
-        What::Save => keeping::save(desk, word, number, names, out),
-        What::Open => keeping::open(desk, word, number, bytes, names, out),
-        What::Page => keeping::page(desk, word, number, names, out),
-        _ => desk,
-    }
-}
-
-// What is said beyond the commands, and changes no plan and no file.
-fn said(
-    desk: Desk,
-    p: Phrase,
-    line: &[u8],
-    number: u64,
-    names: &[u8; 16896],
-    out: &mut Out,
-) -> Desk {
-    let what = p.what;
-    match what {
-        What::Plain => helping::plain(desk, out),
-        What::Spoken => helping::spoken(desk, out),
-        What::Quit => keeping::quit(desk, number, out),
-        What::Help => helping::help(desk, out),
-        What::HelpOn => helping::help_on(desk, part(line, p.from, p.to), number, out),
-        What::Why => asking::why(desk, names, out),
-        What::WhyOne => asking::why_one(desk, p.number, number, names, out),
-        What::Go => moving::go(desk, p.number, names, out),
-        What::CollectAll => moving::collect_all(desk, names, out),
-        What::Drop => moving::drop_at(desk, p.number, names, out),
-        What::OrderBy => finding::order_by(
-            desk,
-            part(line, p.from, p.to),
-            p.number,
-            number,
-            names,
-            out,
-        ),
-        _ => {
-            let why = p.why;
-            console::wrong(desk, number, why, out)
-        }
-    }
-}
-
-// Whether a line is about plans and files; without the brakes of a person it is the console's.
-fn is_kept(what: What) -> bool {
-    match what {
-        What::Plan | What::Mend | What::Save | What::Open | What::Page => true,
-        _ => false,
-    }
-}
-
-fn is_nothing(what: What) -> bool {
-    match what {
-        What::Nothing | What::Write => true,
-        _ => false,
+        told(desk, line, number);
+    } else {
+        console::answer(desk, line, number);
     }
 }
 
 // A line that is more than a command of the console.
-fn phrased(
-    desk: Desk,
-    p: Phrase,
-    line: &[u8],
-    number: u64,
-    bytes: &mut [u8; 8000],
-    names: &mut [u8; 16896],
-    out: &mut Out,
-) -> Desk {
-    let what = p.what;
-    if is_kept(what) {
-        return kept(
-            desk,
-            what,
-            part(line, p.from, p.to),
-            number,
-            bytes,
-            names,
-            out,
-        );
+fn phrased(desk: &mut Desk, what: Result<Option<What>, Trouble>, number: u64) {
+    match what {
+        Ok(Some(What::Plan { word })) => keeping::plan(desk, word, number),
+        Ok(Some(What::Mend { word })) => keeping::mend(desk, word, number),
+        Ok(Some(What::Save { name })) => keeping::save(desk, name, number),
+        Ok(Some(What::Open { name })) => keeping::open(desk, name, number),
+        Ok(Some(What::Page { name })) => keeping::page(desk, name, number),
+        Ok(Some(What::Plain)) => helping::plain(desk),
+        Ok(Some(What::Spoken)) => helping::spoken(desk),
+        Ok(Some(What::Quit)) => keeping::quit(desk, number),
+        Ok(Some(What::Help)) => helping::help(desk),
+        Ok(Some(What::HelpOn { word })) => helping::help_on(desk, word, number),
+        Ok(Some(What::Why)) => asking::why(desk),
+        Ok(Some(What::WhyOne { k })) => asking::why_one(desk, k, number),
+        Ok(Some(What::Go { steps })) => moving::go(desk, steps),
+        Ok(Some(What::CollectAll)) => moving::collect_all(desk),
+        Ok(Some(What::Drop { place })) => moving::drop_at(desk, place),
+        Ok(Some(What::OrderBy { variable, value })) => {
+            finding::order_by(desk, variable, value, number)
+        }
+        Ok(Some(What::Write) | None) => {}
+        Err(why) => console::wrong(desk, number, why),
     }
-    said(desk, p, line, number, names, out)
 }
 
 // Whether the console answers a line: it is one of its commands, and nobody asks for more.
 fn is_usual(spoken: bool, p: Phrase) -> bool {
-    let what = p.what;
-    if is_nothing(what) {
-        return true;
-    }
-    if spoken {
-        return false;
-    }
-    p.old
+    matches!(p.what, Ok(Some(What::Write) | None)) || !spoken && p.old
 }
 
 // The answer to a line, whose number is `number`.
-pub fn answer(
-    desk: Desk,
-    line: &[u8],
-    number: u64,
-    bytes: &mut [u8; 8000],
-    names: &mut [u8; 16896],
-    out: &mut Out,
-) -> Desk {
+pub fn answer(desk: &mut Desk, line: &[u8], number: u64) {
     let p = phrases::phrase_of(line);
-    let mut d = desk;
-    d.said = 0;
-    d.bold = p.bold;
-    if is_usual(d.spoken, p) {
-        return usual(d, line, number, bytes, names, out);
+    desk.said = Said::Well;
+    desk.bold = p.bold;
+    if is_usual(desk.spoken, p) {
+        usual(desk, line, number);
+    } else {
+        phrased(desk, p.what, number);
     }
-    phrased(d, p, line, number, bytes, names, out)
 }

@@ -1,9 +1,9 @@
 // A message that comes in, by names or numbers.
 use commands::Trouble;
-use drawing::{Out, put, put_byte, put_next, put_refusal, unended};
+use drawing::Out;
 use machine::{Message, State};
-use names::Stands;
-use papers::{Desk, changed, failed, refused};
+use names::NameError;
+use papers::Desk;
 use phrases::{has_more, part};
 use plan::Accepted;
 use plan::table::{LENGTH, Table};
@@ -34,14 +34,13 @@ fn next_of(names: &[u8; 16896], line: &[u8], at: usize, n: usize) -> Next {
     if to <= from {
         return Next::End;
     }
-    let s = names::stands_for(names, part(line, from, to), n);
-    match s {
-        Stands::Number { value } => Next::Number { value, to },
-        Stands::Large => Next::Wrong {
+    match names::stands_for(names, part(line, from, to), n) {
+        Ok(value) => Next::Number { value, to },
+        Err(NameError::Large) => Next::Wrong {
             why: Trouble::Large,
         },
-        Stands::Unnamed => Next::Unnamed { from, to },
-        Stands::Unnumbered => Next::Wrong {
+        Err(NameError::Unnamed) => Next::Unnamed { from, to },
+        Err(NameError::Unnumbered) => Next::Wrong {
             why: Trouble::Unnumbered,
         },
     }
@@ -97,105 +96,95 @@ fn reply_of(names: &[u8; 16896], line: &[u8], w: Word) -> Next {
 }
 
 // What becomes of a message that waits now.
-fn put_fate(out: &mut Out, used: usize, table: &Table, activities: usize, m: Message) -> usize {
+fn put_fate(out: &mut Out, table: &Table, activities: usize, m: Message) {
     if !telling::is_received(table, activities, m.partner) {
-        return put(
-            out,
-            used,
-            b"; the plan never receives on this partner, so it leaves by collect",
-        );
+        out.put(b"; the plan never receives on this partner, so it leaves by collect");
+    } else if !telling::is_taken(table, activities, m.partner, m.operation, m.count) {
+        out.put(b"; no receive of the plan takes it");
     }
-    if telling::is_taken(table, activities, m.partner, m.operation, m.count) {
-        return used;
-    }
-    put(out, used, b"; no receive of the plan takes it")
 }
 
-fn put_waits(out: &mut Out, used: usize, names: &[u8; 16896], state: State, m: Message) -> usize {
+fn put_waits(out: &mut Out, names: &[u8; 16896], state: State, m: Message) {
     let mut table = [0u32; LENGTH];
     let mut flags = [0u8; 16];
     let a = machine::limits::planned(state, &mut table, &mut flags);
     match a {
-        Err(_) => used,
+        Err(_) => {}
         Ok(Accepted { activities, .. }) => {
-            let mut at = telling::put_letter(out, used, names, &table, activities, m);
-            at = put(out, at, b"; waits at place");
-            at = put_next(out, at, state.waiting as u64);
-            put_fate(out, at, &table, activities, m)
+            telling::put_letter(out, names, &table, activities, m);
+            out.put(b"; waits at place");
+            out.put_next(state.waiting as u64);
+            put_fate(out, &table, activities, m);
         }
     }
 }
 
-fn posted(desk: Desk, m: Message, names: &[u8; 16896], out: &mut Out) -> Desk {
+fn posted(desk: &mut Desk, m: Message) {
     let before = desk.state;
     let p = mail::post(before, m);
-    let at = put_refusal(out, desk.used, b"post", p.refusal);
-    let at = unended(out, at);
+    desk.out.put_refusal(b"post", p.refusal);
+    desk.out.go_on();
     if p.refusal != 0 {
-        let used = sayings::put_refused(out, at, p.refusal);
-        return refused(desk, used, p.refusal);
+        sayings::put_refused(&mut desk.out, p.refusal);
+        desk.answer(p.refusal);
+        return;
     }
-    let mut used = put(out, at, b" - ");
-    used = put_waits(out, used, names, before, m);
-    used = put_byte(out, used, 10);
+    desk.out.put(b" - ");
+    put_waits(&mut desk.out, &desk.names, before, m);
+    desk.out.put_byte(b'\n');
     let state = p.state;
     let tally = desk.tally;
-    changed(desk, state, tally, desk.plan, used)
+    desk.change(state, tally);
 }
 
 // A name that nobody has.
-fn unnamed(desk: Desk, number: u64, word: &[u8], out: &mut Out) -> Desk {
-    let mut at = put(out, desk.used, b"error");
-    at = put_next(out, at, number);
-    at = put(out, at, b" no such name: ");
-    at = put(out, at, word);
-    at = put_byte(out, at, 10);
-    failed(desk, at)
+fn unnamed(desk: &mut Desk, number: u64, word: &[u8]) {
+    desk.out.put(b"error");
+    desk.out.put_next(number);
+    desk.out.put(b" no such name: ");
+    desk.out.put(word);
+    desk.out.put_byte(b'\n');
+    desk.fail();
 }
 
 // Posts a message by its numbers, so many of them; its partner to reply to stands behind the word `reply` of the line.
 fn posted_with(
-    desk: Desk,
+    desk: &mut Desk,
     line: &[u8],
     reply: Word,
     number: u64,
     numbers: &[u32; 1001],
     count: usize,
-    names: &[u8; 16896],
-    out: &mut Out,
-) -> Desk {
+) {
     if count < 2 {
-        return console::wrong(desk, number, Trouble::Missing, out);
-    }
-    let r = reply_of(names, line, reply);
-    match r {
-        Next::End => console::wrong(desk, number, Trouble::Missing, out),
-        Next::Wrong { why } => console::wrong(desk, number, why, out),
-        Next::Unnamed { from, to } => unnamed(desk, number, part(line, from, to), out),
-        Next::Number { value, to: _ } => {
-            let m = console::message_of(numbers, count - 2, value);
-            posted(desk, m, names, out)
+        console::wrong(desk, number, Trouble::Missing);
+    } else {
+        let r = reply_of(&desk.names, line, reply);
+        match r {
+            Next::End => console::wrong(desk, number, Trouble::Missing),
+            Next::Wrong { why } => console::wrong(desk, number, why),
+            Next::Unnamed { from, to } => unnamed(desk, number, part(line, from, to)),
+            Next::Number { value, to: _ } => {
+                let m = console::message_of(numbers, count - 2, value);
+                posted(desk, m);
+            }
         }
     }
 }
 
 // Posts a message.
-pub(crate) fn post(
-    desk: Desk,
-    line: &[u8],
-    from: usize,
-    number: u64,
-    names: &[u8; 16896],
-    out: &mut Out,
-) -> Desk {
+pub(crate) fn post(desk: &mut Desk, line: &[u8], from: usize, number: u64) {
     let mut numbers = [0u32; 1001];
     let reply = console::reply_in(line, from);
-    let n = numbers_of(names, console::before(line, reply.from), from, &mut numbers);
+    let n = numbers_of(
+        &desk.names,
+        console::before(line, reply.from),
+        from,
+        &mut numbers,
+    );
     match n {
-        Reading::Wrong { why } => console::wrong(desk, number, why, out),
-        Reading::Unnamed { from, to } => unnamed(desk, number, part(line, from, to), out),
-        Reading::All { count } => posted_with(
-            desk, line, reply, number, &numbers, count, names, out,
-        ),
+        Reading::Wrong { why } => console::wrong(desk, number, why),
+        Reading::Unnamed { from, to } => unnamed(desk, number, part(line, from, to)),
+        Reading::All { count } => posted_with(desk, line, reply, number, &numbers, count),
     }
 }

@@ -1,5 +1,5 @@
 // A message by the names of the plan that takes it or sent it.
-use drawing::{Out, entry, put, put_byte, put_number, put_operation, put_partner, put_variable};
+use drawing::{Out, entry, put_operation, put_partner, put_variable};
 use machine::Message;
 use plan::kind;
 use plan::table::{COUNT, KIND, OPERATION, PARTNER, Table};
@@ -117,76 +117,65 @@ fn variable_at(
 }
 
 // Value i of a message, by its variable where it has one.
-fn put_value(
-    out: &mut Out,
-    used: usize,
-    names: &[u8; 16896],
-    variable: u32,
-    front: &[u8],
-    value: u32,
-) -> usize {
-    let mut at = put(out, used, front);
+fn put_value(out: &mut Out, names: &[u8; 16896], variable: u32, front: &[u8], value: u32) {
+    out.put(front);
     if variable < 16 {
-        at = put_variable(out, at, names, variable);
-        at = put_byte(out, at, 32);
+        put_variable(out, names, variable);
+        out.put_byte(b' ');
     }
-    put_number(out, at, value as u64)
+    out.put_number(value as u64);
 }
 
 // Operation and partner, where the partner speaks to us or we to it.
 pub fn put_exchange(
     out: &mut Out,
-    used: usize,
     names: &[u8; 16896],
     receiving: bool,
     partner: u32,
     operation: u32,
-) -> usize {
-    let mut at = put_operation(out, used, names, operation);
+) {
+    put_operation(out, names, operation);
     if receiving {
-        at = put(out, at, b" from ");
+        out.put(b" from ");
     } else {
-        at = put(out, at, b" to ");
+        out.put(b" to ");
     }
-    put_partner(out, at, names, partner)
+    put_partner(out, names, partner);
 }
 
 fn put_values(
     out: &mut Out,
-    used: usize,
     names: &[u8; 16896],
     table: &Table,
     activities: usize,
     receiving: bool,
     m: Message,
-) -> usize {
+) {
     let values = m.values;
     let few = m.count as usize;
-    let mut at = put_place(
-        out, used, names, table, activities, receiving, m, 4, b": ", values[0],
+    put_place(
+        out, names, table, activities, receiving, m, 4, b": ", values[0],
     );
     if 1 < few {
-        at = put_place(
-            out, at, names, table, activities, receiving, m, 5, b", ", values[1],
+        put_place(
+            out, names, table, activities, receiving, m, 5, b", ", values[1],
         );
     }
     if 2 < few {
-        at = put_place(
-            out, at, names, table, activities, receiving, m, 6, b", ", values[2],
+        put_place(
+            out, names, table, activities, receiving, m, 6, b", ", values[2],
         );
     }
     if 3 < few {
-        at = put_place(
-            out, at, names, table, activities, receiving, m, 7, b", ", values[3],
+        put_place(
+            out, names, table, activities, receiving, m, 7, b", ", values[3],
         );
     }
-    at
 }
 
 // The value whose variable stands in this field of the rows.
 fn put_place(
     out: &mut Out,
-    used: usize,
     names: &[u8; 16896],
     table: &Table,
     activities: usize,
@@ -195,7 +184,7 @@ fn put_place(
     field: usize,
     front: &[u8],
     value: u32,
-) -> usize {
+) {
     let v = variable_at(
         table,
         activities,
@@ -205,7 +194,7 @@ fn put_place(
         m.count,
         field,
     );
-    put_value(out, used, names, v, front, value)
+    put_value(out, names, v, front, value);
 }
 
 // Whether row n takes messages like m, and stores whom to reply to.
@@ -232,25 +221,23 @@ fn is_reply_told(table: &Table, activities: usize, m: Message) -> bool {
 }
 
 // Behind a message, whom to reply to.
-pub(crate) fn put_reply(out: &mut Out, used: usize, names: &[u8; 16896], reply: u32) -> usize {
-    let at = put(out, used, b"; reply to ");
-    put_partner(out, at, names, reply)
+pub(crate) fn put_reply(out: &mut Out, names: &[u8; 16896], reply: u32) {
+    out.put(b"; reply to ");
+    put_partner(out, names, reply);
 }
 
 // A message: operation, partner and values, and whom to reply to, where that matters.
 pub fn put_letter(
     out: &mut Out,
-    used: usize,
     names: &[u8; 16896],
     table: &Table,
     activities: usize,
     m: Message,
-) -> usize {
+) {
     let receiving = is_received(table, activities, m.partner);
-    let mut at = put_exchange(out, used, names, receiving, m.partner, m.operation);
-    at = put_values(out, at, names, table, activities, receiving, m);
+    put_exchange(out, names, receiving, m.partner, m.operation);
+    put_values(out, names, table, activities, receiving, m);
     if is_reply_told(table, activities, m) {
-        return put_reply(out, at, names, m.reply);
+        put_reply(out, names, m.reply);
     }
-    at
 }

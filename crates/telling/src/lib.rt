@@ -1,4 +1,4 @@
-// What messages and steps are, in words and by the names of the plan. Each function writes at the place `used` of `out`, and answers the place after.
+// What messages and steps are, in words and by the names of the plan. Each function puts words into an `Out`, behind what it has.
 #![tactic(auto)]
 
 mod letters;

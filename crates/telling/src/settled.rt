@@ -1,7 +1,7 @@
 // The raises behind a step's own deed: while it leaves two receives or arms of its order open for one thing, a fault is raised in place of the
 // higher-numbered. The order that the step leaves has no such pair any more, so what was done is done here once more, from the order before the step.
 use checking::is_same_thing;
-use drawing::{Out, entry, put, put_next};
+use drawing::{Out, entry};
 use order::{End, Next, Order};
 use plan::kind;
 use plan::table::{KIND, Table};
@@ -80,41 +80,26 @@ fn lower_of(table: &Table, picks: &[usize; 256], marks: &[u8; 256], k: usize) ->
 }
 
 // A receive or an arm by its number.
-fn put_row(out: &mut Out, used: usize, table: &Table, n: usize) -> usize {
-    let mut at = used;
+fn put_row(out: &mut Out, table: &Table, n: usize) {
     if entry(table, n, KIND) == kind::ARM {
-        at = put(out, at, b"arm");
+        out.put(b"arm");
     } else {
-        at = put(out, at, b"receive");
+        out.put(b"receive");
     }
-    put_next(out, at, n as u64)
+    out.put_next(n as u64);
 }
 
-fn put_raise(
-    out: &mut Out,
-    used: usize,
-    table: &Table,
-    picks: &[usize; 256],
-    marks: &[u8; 256],
-    k: usize,
-) -> usize {
-    let mut at = put(out, used, b"; ");
-    at = put_row(out, at, table, k);
-    at = put(out, at, b" was open for the same thing as ");
-    at = put_row(out, at, table, lower_of(table, picks, marks, k));
-    put(out, at, b": it raised a fault")
+fn put_raise(out: &mut Out, table: &Table, picks: &[usize; 256], marks: &[u8; 256], k: usize) {
+    out.put(b"; ");
+    put_row(out, table, k);
+    out.put(b" was open for the same thing as ");
+    put_row(out, table, lower_of(table, picks, marks, k));
+    out.put(b": it raised a fault");
 }
 
 // Each such raise behind an order that moved to this. A row faults once in a step at most: there are never more than 256.
-pub(crate) fn put_raises(
-    out: &mut Out,
-    used: usize,
-    table: &Table,
-    activities: usize,
-    next: Next,
-) -> usize {
+pub(crate) fn put_raises(out: &mut Out, table: &Table, activities: usize, next: Next) {
     let picks = fit::search::picks_of(table);
-    let mut at = used;
     let mut m = next;
     let mut left: usize = 256;
     while left > 0 {
@@ -123,11 +108,10 @@ pub(crate) fn put_raises(
         let end = m.end;
         let k = clash_in(table, activities, end, &marks);
         if 256 <= k {
-            return at;
+            return;
         }
-        at = put_raise(out, at, table, &picks, &marks, k);
+        put_raise(out, table, &picks, &marks, k);
         m = acting::acted(table, activities, o, k, true);
         left -= 1;
     }
-    at
 }

@@ -1,7 +1,5 @@
 -- Meaning: a line as it is gathered, and as it counts once it has ended. Assumes nothing: these are definitions.
-use Rattle.std.specs.Prelude.{ℕ, ◌-◌, cond, List, length, get_or, set, eqb, ltb}
-use Rattle.text.specs.declared.Line.{Line}
-use Rattle.text.specs.declared.Line.TheVariants.{Text, Long}
+use Rattle.std.specs.Prelude.{ℕ, ◌-◌, cond, List, length, get_or, set, eqb, ltb, Option, Some, None}
 
 -- one more byte after `length` of them, where there is room for it
 unfoldable pub kept : List ℕ → (length b : ℕ) → List ℕ
@@ -12,5 +10,5 @@ unfoldable pub bare : List ℕ → ℕ
 bare s = cond (eqb (get_or s (length s - 1) 0) 13) (length s - 1) (length s)
 
 -- at most 16,000 characters
-unfoldable pub line_of : List ℕ → Line
-line_of s = cond (ltb 16000 (bare s)) Long (Text (bare s))
+unfoldable pub line_of : List ℕ → Option ℕ
+line_of s = cond (ltb 16000 (bare s)) None (Some (bare s))

@@ -1,23 +1,22 @@
 -- Meaning: words of a line: what stands between blanks. Assumes nothing: these are definitions.
-use Rattle.std.specs.Prelude.{ℕ, suc, ◌+◌, ◌-◌, min, Bool, true, false, cond, not, List, [], ◌∷◌, length, take, drop, eqb}
+use Rattle.std.specs.Prelude.{ℕ, ◌+◌, ◌-◌, min, Bool, not, ◌||◌, List, length, take, drop, eqb, bytes_eq}
+use Rattle.std.specs.List.{prefix_len, list_all}
 use Rattle.text.specs.declared.Word.{Word}
 
 -- a space or a tab; and what is neither
 abbrev pub blank : ℕ → Bool
-blank b = cond (eqb b 32) true (eqb b 9)
+blank b = eqb b 32 || eqb b 9
 
 abbrev pub solid : ℕ → Bool
 solid b = not (blank b)
 
 -- how many at the start of a text keep the rule p, one after the other
-unfoldable pub run : (p : ℕ → Bool) → List ℕ → ℕ
-run p [] = 0
-run p (x ∷ l) = cond (p x) (suc (run p l)) 0
+abbrev pub run : (p : ℕ → Bool) → List ℕ → ℕ
+run p s = prefix_len p s
 
 -- whether all of a text keeps the rule p
-unfoldable pub all : (p : ℕ → Bool) → List ℕ → Bool
-all p [] = true
-all p (x ∷ l) = cond (p x) (all p l) false
+abbrev pub all : (p : ℕ → Bool) → List ℕ → Bool
+all p s = list_all p s
 
 -- the place of the first that is no blank, and of the first blank
 abbrev pub word_start : List ℕ → (at : ℕ) → ℕ
@@ -36,8 +35,5 @@ abbrev pub text_of : List ℕ → (from to : ℕ) → List ℕ
 text_of s from to = take (to - from) (drop from s)
 
 -- whether two texts are the same
-unfoldable pub same_text : List ℕ → List ℕ → Bool
-same_text [] [] = true
-same_text [] (y ∷ m) = false
-same_text (x ∷ l) [] = false
-same_text (x ∷ l) (y ∷ m) = cond (eqb x y) (same_text l m) false
+abbrev pub same_text : List ℕ → List ℕ → Bool
+same_text s t = bytes_eq s t

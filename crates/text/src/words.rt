@@ -1,7 +1,6 @@
 // Words: what stands between blanks.
-ghost use Rattle.std.specs.Prelude.{◌+◌, ◌≤◌, min as Nat·min, length, drop, ◌≡◌};
-ghost use Rattle.text.specs.Words.{blank, solid, run, word_at};
-ghost use Rattle.text.specs.Words.{same_text};
+ghost use Rattle.std.specs.Prelude.{◌≤◌, length, ◌≡◌};
+ghost use Rattle.text.specs.Words.{blank, solid, run, word_at, same_text};
 
 use super::Word;
 
@@ -9,71 +8,38 @@ use super::Word;
 fn is_blank(b: u8) -> bool
     ensures { result ≡ blank b }
 {
-    if b == 32 { true } else { b == 9 }
+    b == b' ' || b == b'\t'
 }
 
-// The first place from `at` on that holds no blank.
-fn after_blanks(s: &[u8], at: usize) -> usize
-    requires { at ≤ length s.now }
-    ensures value { result ≡ at + run blank (drop at s.now) }
-    ensures lower_bound { (at ≤ result) × (result ≤ length s.now) }
+// How many blanks a text begins with.
+fn blanks(s: &[u8]) -> usize
+    ensures { (result ≡ run blank s.now) × (result ≤ length s.now) }
 {
-    let mut i = at;
-    while i < s.len() {
-        if !is_blank(s[i]) {
-            return i;
-        }
-        i += 1;
-    }
-    i
+    s.iter().take_while(|b| is_blank(**b)).count()
 }
 
-// The first place from `at` on that holds a blank.
-fn after_solid(s: &[u8], at: usize) -> usize
-    requires { at ≤ length s.now }
-    ensures value { result ≡ at + run solid (drop at s.now) }
-    ensures lower_bound { (at ≤ result) × (result ≤ length s.now) }
+// How many bytes that are no blanks it begins with.
+fn solids(s: &[u8]) -> usize
+    ensures { (result ≡ run solid s.now) × (result ≤ length s.now) }
 {
-    let mut i = at;
-    while i < s.len() {
-        if is_blank(s[i]) {
-            return i;
-        }
-        i += 1;
-    }
-    i
+    s.iter().take_while(|b| !is_blank(**b)).count()
 }
 
 // The first word from the place `at` on, or from the end where `at` lies behind it.
+#[tactic(auto, unfolding(crate::specs::Words::word_at))]
 pub fn word_at(s: &[u8], at: usize) -> Word
     ensures is { result ≡ word_at s.now at }
     ensures inside { (result.from ≤ result.to) × (result.to ≤ length s.now) }
 {
-    let start = least(at, s.len());
-    let from = after_blanks(s, start);
-    let to = after_solid(s, from);
+    let start = at.min(s.len());
+    let from = start + blanks(&s[start..]);
+    let to = from + solids(&s[from..]);
     Word { from, to }
-}
-
-fn least(a: usize, b: usize) -> usize
-    ensures { result ≡ Nat·min a b }
-{
-    if a < b { a } else { b }
 }
 
 // Whether two texts are the same.
 pub fn same(a: &[u8], b: &[u8]) -> bool
     ensures { result ≡ same_text a.now b.now }
 {
-    let mut i = 0;
-    while i < a.len() {
-        if b.len() <= i {
-            return false;
-        }
-        if a[i] != b[i] {
-            return false;
-        }
-        i += 1;
-    }
-    b.len() == a.len()
+    a == b
 }

@@ -5,7 +5,6 @@
 use plan::table::LENGTH;
 use plan::{Accepted, Refusal};
 use std::io::Read;
-use text::{Decimal, Hex, Line};
 
 // What a vector wants, or what reading its bytes gave.
 #[derive(Clone, Copy)]
@@ -72,14 +71,12 @@ fn number_at(line: &[u8], at: usize) -> Wanted {
     let w = text::word_at(line, at);
     let from = w.from;
     let to = w.to;
-    let d = text::decimal_of(&line[from..to]);
-    match d {
-        Decimal::Value { value } => Wanted::Number {
+    match text::decimal_of(&line[from..to]) {
+        Ok(value) => Wanted::Number {
             value: value as u64,
             next: to,
         },
-        Decimal::Large => Wanted::None,
-        Decimal::Bad => Wanted::None,
+        Err(_) => Wanted::None,
     }
 }
 
@@ -161,14 +158,12 @@ fn judged(line: &[u8]) -> Verdict {
         return Verdict::Comment;
     }
     let mut bytes = [0u8; 8000];
-    let h = text::decode(&line[from..to], &mut bytes);
-    match h {
-        Hex::Bytes { count } => {
+    match text::decode(&line[from..to], &mut bytes) {
+        Ok(count) => {
             let got = reading_in(&bytes, count);
             judged_by(line, to, got)
         }
-        Hex::Long => Verdict::Unreadable,
-        Hex::Bad => Verdict::Unreadable,
+        Err(_) => Verdict::Unreadable,
     }
 }
 
@@ -254,10 +249,9 @@ fn long_line(rt: HostRuntime, t: Tally) -> Tally {
 
 // The bytes kept of a line that has ended.
 fn ended_at(rt: HostRuntime, t: Tally, kept: &[u8]) -> Tally {
-    let l = text::line_of(kept);
-    match l {
-        Line::Long => long_line(rt, t),
-        Line::Text { length } => {
+    match text::line_of(kept) {
+        None => long_line(rt, t),
+        Some(length) => {
             if length <= kept.len() {
                 return line_judged(rt, t, &kept[0..length]);
             }

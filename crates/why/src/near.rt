@@ -1,5 +1,5 @@
 // The messages that wait beside what a receive asks for: those that fit, and those that fit but for one value.
-use drawing::{Out, entry, put, put_byte, put_next, put_variable};
+use drawing::{Out, entry, put_variable};
 use machine::Message;
 use plan::table::{COUNT, OPERATION, PARTNER, Table, VARIABLES};
 
@@ -63,9 +63,9 @@ fn is_for(table: &Table, n: usize, m: Message) -> bool {
     m.count == entry(table, n, COUNT)
 }
 
-fn put_number_of(out: &mut Out, used: usize, j: usize) -> usize {
-    let at = put(out, used, b"    message");
-    put_next(out, at, j as u64)
+fn put_number_of(out: &mut Out, j: usize) {
+    out.put(b"    message");
+    out.put_next(j as u64);
 }
 
 fn less_one(asked: u64) -> u64 {
@@ -78,70 +78,65 @@ fn less_one(asked: u64) -> u64 {
 // The one value that is another.
 fn put_miss(
     out: &mut Out,
-    used: usize,
     names: &[u8; 16896],
     table: &Table,
     n: usize,
     asked: &[u64; 4],
     values: &[u32; 4],
     place: usize,
-) -> usize {
+) {
     if place < 4 {
-        let mut at = put(out, used, b" nearly fits: ");
-        at = put_variable(out, at, names, entry(table, n, VARIABLES + place));
-        at = put_next(out, at, wide(values[place]));
-        at = put(out, at, b", not");
-        at = put_next(out, at, less_one(asked[place]));
-        return put_byte(out, at, 10);
+        out.put(b" nearly fits: ");
+        put_variable(out, names, entry(table, n, VARIABLES + place));
+        out.put_next(wide(values[place]));
+        out.put(b", not");
+        out.put_next(less_one(asked[place]));
+        out.put_byte(b'\n');
+    } else {
+        out.put_byte(b'\n');
     }
-    put_byte(out, used, 10)
 }
 
 // Message j beside the receive or arm in row n.
 fn put_one(
     out: &mut Out,
-    used: usize,
     names: &[u8; 16896],
     table: &Table,
     n: usize,
     asked: &[u64; 4],
     j: usize,
     m: Message,
-) -> usize {
-    if !is_for(table, n, m) {
-        return used;
+) {
+    if is_for(table, n, m) {
+        let values = m.values;
+        let near = near_of(asked, m);
+        if near.many <= 1 {
+            put_number_of(out, j);
+            if near.many == 0 {
+                out.put(b" fits\n");
+            } else {
+                put_miss(out, names, table, n, asked, &values, near.place);
+            }
+        }
     }
-    let values = m.values;
-    let near = near_of(asked, m);
-    if 1 < near.many {
-        return used;
-    }
-    let at = put_number_of(out, used, j);
-    if near.many == 0 {
-        return put(out, at, b" fits\n");
-    }
-    put_miss(out, at, names, table, n, asked, &values, near.place)
 }
 
 // All of them beside row n.
 pub(crate) fn put_near(
     out: &mut Out,
-    used: usize,
     names: &[u8; 16896],
     table: &Table,
     n: usize,
     asked: &[u64; 4],
     messages: [Message; 64],
     waiting: usize,
-) -> usize {
-    let mut at = used;
+) {
     let mut j = 0;
     while j < 64 {
         if j < waiting {
             let m = messages[j];
-            at = put_one(out, at, names, table, n, asked, j, m);
+            put_one(out, names, table, n, asked, j, m);
         }
         j += 1;
     }
-    at
 }

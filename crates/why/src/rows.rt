@@ -1,7 +1,7 @@
 // What an order does and waits for, a line for each activity that awaits its step.
 use super::holding::is_held;
 use super::near::put_near;
-use drawing::{Out, entry, is_scope, put, put_activity, put_byte, put_next, put_scope};
+use drawing::{Out, entry, is_scope, put_activity, put_scope};
 use machine::State;
 use order::{Order, fault};
 use plan::kind;
@@ -16,99 +16,95 @@ fn mark_at(marks: &[u8; 256], n: usize) -> u8 {
     0
 }
 
-fn put_place(out: &mut Out, used: usize, n: usize) -> usize {
-    let mut at = put(out, used, b" (activity");
-    at = put_next(out, at, n as u64);
-    put(out, at, b")")
+fn put_place(out: &mut Out, n: usize) {
+    out.put(b" (activity");
+    out.put_next(n as u64);
+    out.put(b")");
 }
 
 // A receive or an arm that is open, and the messages beside it.
 fn put_open(
     out: &mut Out,
-    used: usize,
     names: &[u8; 16896],
     table: &Table,
     flags: &[u8; 16],
     n: usize,
     state: State,
     order: Order,
-) -> usize {
+) {
     let bound = order.bound;
     let values = order.values;
     let messages = state.messages;
     let known = fit::fitness::known_of(flags, order);
     let asked = fit::fitness::asked_at(table, &known, n);
-    let mut at = put(out, used, b"  waits for ");
-    at = put_known(out, at, names, table, flags, n, &bound, &values);
-    at = put_place(out, at, n);
-    at = put_byte(out, at, 10);
-    put_near(out, at, names, table, n, &asked, messages, state.waiting)
+    out.put(b"  waits for ");
+    put_known(out, names, table, flags, n, &bound, &values);
+    put_place(out, n);
+    out.put_byte(b'\n');
+    put_near(out, names, table, n, &asked, messages, state.waiting);
 }
 
 // A send that awaits its step: it may be held while 64 messages wait, and is a fault where a variable is not bound, or holds a partner that there is not.
 fn put_send(
     out: &mut Out,
-    used: usize,
     names: &[u8; 16896],
     table: &Table,
     flags: &[u8; 16],
     n: usize,
     held: bool,
     order: Order,
-) -> usize {
+) {
     let bound = order.bound;
     let values = order.values;
-    let mut at = put(out, used, b"  is to send ");
-    at = put_sent(out, at, names, table, flags, n, &bound, &values);
-    at = put_place(out, at, n);
+    out.put(b"  is to send ");
+    put_sent(out, names, table, flags, n, &bound, &values);
+    put_place(out, n);
     if held {
-        return put(out, at, b": held, since 64 messages wait\n");
+        out.put(b": held, since 64 messages wait\n");
+    } else {
+        let cause = fault_of(table, n, &bound, &values);
+        if cause != SENDS {
+            out.put(b": it will fault");
+            put_sending_fault(out, names, cause);
+        }
+        out.put_byte(b'\n');
     }
-    let cause = fault_of(table, n, &bound, &values);
-    if cause != SENDS {
-        at = put(out, at, b": it will fault");
-        at = put_sending_fault(out, at, names, cause);
-    }
-    put_byte(out, at, 10)
 }
 
 // Row k and its rival, by their numbers.
-fn put_rivals(out: &mut Out, used: usize, k: usize, rival: usize) -> usize {
-    let mut at = put(out, used, b"; activities");
-    at = put_next(out, at, rival as u64);
-    at = put(out, at, b" and");
-    at = put_next(out, at, k as u64);
-    put(out, at, b" are for the same thing")
+fn put_rivals(out: &mut Out, k: usize, rival: usize) {
+    out.put(b"; activities");
+    out.put_next(rival as u64);
+    out.put(b" and");
+    out.put_next(k as u64);
+    out.put(b" are for the same thing");
 }
 
 // Of a conflicting receive, the first two that are for one thing and may have made the root fault.
-fn put_conflict(out: &mut Out, used: usize, table: &Table, cause: u8) -> usize {
-    if cause != fault::CONFLICTING_RECEIVE {
-        return used;
+fn put_conflict(out: &mut Out, table: &Table, cause: u8) {
+    if cause == fault::CONFLICTING_RECEIVE {
+        let k = checking::contested_in(table, 256);
+        if k <= 255 {
+            put_rivals(out, k, checking::rival_of(table, k));
+        }
     }
-    let k = checking::contested_in(table, 256);
-    if 255 < k {
-        return used;
-    }
-    put_rivals(out, used, k, checking::rival_of(table, k))
 }
 
 // The root, which has this mark: where it has faulted, by which fault.
 pub(crate) fn put_root_faulted(
     out: &mut Out,
-    used: usize,
     names: &[u8; 16896],
     table: &Table,
     mark: u8,
     cause: u8,
-) -> usize {
+) {
     if !has_faulted(mark) {
-        return used;
+        return;
     }
-    let mut at = put(out, used, b"  the root faulted");
-    at = put_by_fault(out, at, names, cause);
-    at = put_conflict(out, at, table, cause);
-    put_byte(out, at, 10)
+    out.put(b"  the root faulted");
+    put_by_fault(out, names, cause);
+    put_conflict(out, table, cause);
+    out.put_byte(b'\n');
 }
 
 fn may_be_contested(choice: u8) -> bool {
@@ -119,69 +115,46 @@ fn may_be_contested(choice: u8) -> bool {
 }
 
 // Where the mark of a scope says that two receives were open for one thing, or does not say what it was, the first two in scope n for which that may be.
-fn put_contested(out: &mut Out, used: usize, table: &Table, n: usize, choice: u8) -> usize {
-    if !may_be_contested(choice) {
-        return used;
+fn put_contested(out: &mut Out, table: &Table, n: usize, choice: u8) {
+    if may_be_contested(choice) {
+        let k = checking::contested_in(table, n);
+        if k <= 255 {
+            put_rivals(out, k, checking::rival_of(table, k));
+        }
     }
-    let k = checking::contested_in(table, n);
-    if 255 < k {
-        return used;
-    }
-    put_rivals(out, used, k, checking::rival_of(table, k))
 }
 
 // Scope n, which has this mark: where it has faulted, by which fault.
-fn put_faulted(
-    out: &mut Out,
-    used: usize,
-    names: &[u8; 16896],
-    table: &Table,
-    n: usize,
-    mark: u8,
-) -> usize {
+fn put_faulted(out: &mut Out, names: &[u8; 16896], table: &Table, n: usize, mark: u8) {
     if !has_faulted(mark) {
-        return used;
+        return;
     }
-    let mut at = put(out, used, b"  ");
-    at = put_scope_faulted(out, at, names, table, n, mark);
-    at = put_contested(out, at, table, n, mark / 16);
-    put_byte(out, at, 10)
+    out.put(b"  ");
+    put_scope_faulted(out, names, table, n, mark);
+    put_contested(out, table, n, mark / 16);
+    out.put_byte(b'\n');
 }
 
-fn put_close(
-    out: &mut Out,
-    used: usize,
-    names: &[u8; 16896],
-    table: &Table,
-    n: usize,
-    held: bool,
-) -> usize {
-    let mut at = put(out, used, b"  is to close ");
-    at = put_scope(out, at, names, table, n);
+fn put_close(out: &mut Out, names: &[u8; 16896], table: &Table, n: usize, held: bool) {
+    out.put(b"  is to close ");
+    put_scope(out, names, table, n);
     if held {
-        return put(out, at, b": held, since the order remembers 32 closings\n");
+        out.put(b": held, since the order remembers 32 closings\n");
+    } else {
+        out.put_byte(b'\n');
     }
-    put_byte(out, at, 10)
 }
 
-fn put_ready(
-    out: &mut Out,
-    used: usize,
-    names: &[u8; 16896],
-    table: &Table,
-    flags: &[u8; 16],
-    n: usize,
-) -> usize {
-    let mut at = put(out, used, b"  is to ");
-    at = put_activity(out, at, names, table, flags, n);
-    at = put_place(out, at, n);
-    put_byte(out, at, 10)
+fn put_ready(out: &mut Out, names: &[u8; 16896], table: &Table, flags: &[u8; 16], n: usize) {
+    out.put(b"  is to ");
+    put_activity(out, names, table, flags, n);
+    put_place(out, n);
+    out.put_byte(b'\n');
 }
 
 // Activity n, which has the mark of what awaits its step or runs.
 fn put_active(
     out: &mut Out,
-    used: usize,
     names: &[u8; 16896],
     table: &Table,
     flags: &[u8; 16],
@@ -189,26 +162,23 @@ fn put_active(
     held: bool,
     state: State,
     order: Order,
-) -> usize {
+) {
     match entry(table, n, KIND) {
-        kind::SEND | kind::HELD_SEND => put_send(out, used, names, table, flags, n, held, order),
-        kind::RECEIVE | kind::ASKING_RECEIVE => put_open(
-            out, used, names, table, flags, n, state, order,
-        ),
+        kind::SEND | kind::HELD_SEND => put_send(out, names, table, flags, n, held, order),
+        kind::RECEIVE | kind::ASKING_RECEIVE => put_open(out, names, table, flags, n, state, order),
         kind::SET
         | kind::RAISE
         | kind::NUMBERED_RAISE
         | kind::LEAVE
         | kind::CHOOSE
-        | kind::REPEAT => put_ready(out, used, names, table, flags, n),
-        _ => used,
+        | kind::REPEAT => put_ready(out, names, table, flags, n),
+        _ => {}
     }
 }
 
 // Activity or arm n, whose step is held or not.
 pub(crate) fn put_row(
     out: &mut Out,
-    used: usize,
     names: &[u8; 16896],
     table: &Table,
     flags: &[u8; 16],
@@ -217,27 +187,22 @@ pub(crate) fn put_row(
     held: bool,
     state: State,
     order: Order,
-) -> usize {
+) {
     let marks = order.marks;
     let mark = mark_at(&marks, n);
     if mark == 1 {
-        return put_active(out, used, names, table, flags, n, held, state, order);
+        put_active(out, names, table, flags, n, held, state, order);
+    } else if mark == 3 {
+        put_close(out, names, table, n, held);
+    } else if fit::search::arm_open(table, picks, &marks, n) {
+        put_open(out, names, table, flags, n, state, order);
+    } else if is_scope(entry(table, n, KIND)) {
+        put_faulted(out, names, table, n, mark);
     }
-    if mark == 3 {
-        return put_close(out, used, names, table, n, held);
-    }
-    if fit::search::arm_open(table, picks, &marks, n) {
-        return put_open(out, used, names, table, flags, n, state, order);
-    }
-    if is_scope(entry(table, n, KIND)) {
-        return put_faulted(out, used, names, table, n, mark);
-    }
-    used
 }
 
 pub(crate) fn put_rows(
     out: &mut Out,
-    used: usize,
     names: &[u8; 16896],
     table: &Table,
     flags: &[u8; 16],
@@ -245,13 +210,11 @@ pub(crate) fn put_rows(
     activities: usize,
     state: State,
     order: Order,
-) -> usize {
-    let mut at = used;
+) {
     let mut n = 0;
     while n < activities {
         let held = is_held(table, picks, activities, state.waiting, order, n);
-        at = put_row(out, at, names, table, flags, picks, n, held, state, order);
+        put_row(out, names, table, flags, picks, n, held, state, order);
         n += 1;
     }
-    at
 }

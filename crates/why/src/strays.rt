@@ -1,5 +1,5 @@
 // The messages that no receive of the plan can ever take, and those that no order can take now.
-use drawing::{Out, put, put_next};
+use drawing::Out;
 use machine::{Message, State};
 use order::Order;
 use plan::table::Table;
@@ -62,19 +62,18 @@ fn taker_of(
 
 fn put_message(
     out: &mut Out,
-    used: usize,
     names: &[u8; 16896],
     table: &Table,
     activities: usize,
     j: usize,
     m: Message,
     why: &[u8],
-) -> usize {
-    let mut at = put(out, used, b"message");
-    at = put_next(out, at, j as u64);
-    at = put(out, at, b", ");
-    at = put_letter(out, at, names, table, activities, m);
-    put(out, at, why)
+) {
+    out.put(b"message");
+    out.put_next(j as u64);
+    out.put(b", ");
+    put_letter(out, names, table, activities, m);
+    out.put(why);
 }
 
 // What becomes of a message.
@@ -141,7 +140,6 @@ fn is_full(orders: [Order; 16]) -> bool {
 // Message j by its fate, where nobody takes it; where only what is held is asked for, where that is its fate.
 fn put_stray(
     out: &mut Out,
-    used: usize,
     names: &[u8; 16896],
     table: &Table,
     activities: usize,
@@ -149,11 +147,10 @@ fn put_stray(
     fate: u32,
     j: usize,
     m: Message,
-) -> usize {
+) {
     if fate == HELD {
-        return put_message(
+        put_message(
             out,
-            used,
             names,
             table,
             activities,
@@ -161,27 +158,23 @@ fn put_stray(
             m,
             b": it would start an order: held, since 16 orders are live\n",
         );
+    } else if !held_alone {
+        put_untaken(out, names, table, activities, fate, j, m);
     }
-    if held_alone {
-        return used;
-    }
-    put_untaken(out, used, names, table, activities, fate, j, m)
 }
 
 fn put_untaken(
     out: &mut Out,
-    used: usize,
     names: &[u8; 16896],
     table: &Table,
     activities: usize,
     fate: u32,
     j: usize,
     m: Message,
-) -> usize {
+) {
     match fate {
         UNTAKEN => put_message(
             out,
-            used,
             names,
             table,
             activities,
@@ -191,7 +184,6 @@ fn put_untaken(
         ),
         LATER => put_message(
             out,
-            used,
             names,
             table,
             activities,
@@ -199,14 +191,13 @@ fn put_untaken(
             m,
             b": no order takes it now\n",
         ),
-        _ => used,
+        _ => {}
     }
 }
 
 // The messages that nobody takes; or those that are held alone.
 pub(crate) fn put_strays(
     out: &mut Out,
-    used: usize,
     names: &[u8; 16896],
     table: &Table,
     flags: &[u8; 16],
@@ -214,20 +205,18 @@ pub(crate) fn put_strays(
     activities: usize,
     state: State,
     held_alone: bool,
-) -> usize {
+) {
     let orders = state.orders;
     let messages = state.messages;
     let waiting = state.waiting;
     let letters = fit::letters::letters_of(messages, waiting);
-    let mut at = used;
     let mut j = 0;
     while j < 64 {
         if j < waiting {
             let m = messages[j];
             let fate = fate_of(table, flags, picks, activities, orders, &letters, j, m);
-            at = put_stray(out, at, names, table, activities, held_alone, fate, j, m);
+            put_stray(out, names, table, activities, held_alone, fate, j, m);
         }
         j += 1;
     }
-    at
 }

@@ -1,6 +1,6 @@
 // What an activity is doing in an order, by the order's marks: one of those below, each with its words. (What each mark means:
 // crates/order/specs/State.antt.)
-use drawing::{Out, after, end_of, entry, has_undo, parent_of, put, put_column, undo_of, wide};
+use drawing::{Out, after, end_of, entry, has_undo, parent_of, undo_of, wide};
 use order::Order;
 use plan::kind;
 use plan::table::{KIND, Table};
@@ -63,41 +63,42 @@ pub const UNDONE: usize = 16;
 const UNKNOWN: usize = 17;
 
 // What is done is said in two ways: in a column of its own, and as it is.
-fn put_said(out: &mut Out, used: usize, column: bool, words: &[u8]) -> usize {
+fn put_said(out: &mut Out, column: bool, words: &[u8]) {
     if column {
-        return put_column(out, used, words);
+        out.put_column(words);
+    } else {
+        out.put(words);
     }
-    put(out, used, words)
 }
 
 // Of what waits for its step.
-fn put_ready(out: &mut Out, used: usize, column: bool, doing: usize) -> usize {
+fn put_ready(out: &mut Out, column: bool, doing: usize) {
     match doing {
-        WAITING => put_said(out, used, column, b"waiting for a message"),
-        TO_SEND => put_said(out, used, column, b"ready to send"),
-        TO_SET => put_said(out, used, column, b"ready to set"),
-        TO_RAISE => put_said(out, used, column, b"ready to raise"),
-        TO_LEAVE => put_said(out, used, column, b"ready to leave"),
-        TO_DECIDE => put_said(out, used, column, b"ready to decide"),
-        TO_CLOSE => put_said(out, used, column, b"done, ready to close"),
-        _ => put_said(out, used, column, b"of an unknown kind"),
+        WAITING => put_said(out, column, b"waiting for a message"),
+        TO_SEND => put_said(out, column, b"ready to send"),
+        TO_SET => put_said(out, column, b"ready to set"),
+        TO_RAISE => put_said(out, column, b"ready to raise"),
+        TO_LEAVE => put_said(out, column, b"ready to leave"),
+        TO_DECIDE => put_said(out, column, b"ready to decide"),
+        TO_CLOSE => put_said(out, column, b"done, ready to close"),
+        _ => put_said(out, column, b"of an unknown kind"),
     }
 }
 
 // What an activity does, in words.
-pub fn put_doing(out: &mut Out, used: usize, column: bool, doing: usize) -> usize {
+pub fn put_doing(out: &mut Out, column: bool, doing: usize) {
     match doing {
-        IDLE => put_said(out, used, column, b""),
-        DONE => put_said(out, used, column, b"done"),
-        RUNNING => put_said(out, used, column, b"running"),
-        REMEMBERED => put_said(out, used, column, b"closed, remembered"),
-        FAULTED => put_said(out, used, column, b"faulted"),
-        UNDOING => put_said(out, used, column, b"undoing"),
-        HANDLING => put_said(out, used, column, b"handling"),
-        STOPPED => put_said(out, used, column, b"stopped"),
-        STOPPED_UNDOING => put_said(out, used, column, b"stopped, undoing"),
-        UNDONE => put_said(out, used, column, b"being undone"),
-        _ => put_ready(out, used, column, doing),
+        IDLE => put_said(out, column, b""),
+        DONE => put_said(out, column, b"done"),
+        RUNNING => put_said(out, column, b"running"),
+        REMEMBERED => put_said(out, column, b"closed, remembered"),
+        FAULTED => put_said(out, column, b"faulted"),
+        UNDOING => put_said(out, column, b"undoing"),
+        HANDLING => put_said(out, column, b"handling"),
+        STOPPED => put_said(out, column, b"stopped"),
+        STOPPED_UNDOING => put_said(out, column, b"stopped, undoing"),
+        UNDONE => put_said(out, column, b"being undone"),
+        _ => put_ready(out, column, doing),
     }
 }
 

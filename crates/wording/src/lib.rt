@@ -1,5 +1,5 @@
-// What the engine shows of itself: messages, what is offered, and orders on the drawing of their plan. Each function writes at the
-// place `used` of `out`, and answers the place after.
+// What the engine shows of itself: messages, what is offered, and orders on the drawing of their plan. Each function puts words into an `Out`, behind
+// what it has.
 #![tactic(auto)]
 
 pub mod doing;

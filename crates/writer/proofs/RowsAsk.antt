@@ -1,28 +1,28 @@
 -- What is asked for in the rows of a table is within the limits, and is what the tree that is read asks for. Assumes nothing.
-use borrow.Author.Tests.{ltb-true, leb-true, eqb-true}
+use borrow.Author.Tests.{ltb-true, leb-true}
 use native.Mathlib.Omega.{arith}
 use native.Mathlib.Nat.{add-zero}
 use mathlib.Core.Path.{◌≡◌, refl, sym, ap, ◌∙◌}
-use mathlib.Core.Bool.{Bool, true, false, cond, ◌&&◌, ◌||◌}
-use mathlib.Core.List.{List, [], ◌∷◌, ◌++◌, map}
+use mathlib.Core.Bool.{Bool, true, false, ◌&&◌, ◌||◌}
+use mathlib.Core.List.{List, [], ◌∷◌, ◌++◌}
 use Prim.Native.Nat.{ℕ, zero, suc, ◌+◌, ◌*◌, ◌/◌, ◌≤◌, ◌<◌}
 use lib.Dec.{eqb, ltb, leb}
-use lib.ListN.{length, get_or, take, drop, length-append}
+use lib.ListN.{length, get_or, drop, length-append}
 use lib.Seq.{get_or-take, get_or-drop}
-use Rattle.plan.specs.Agree.{Asked, asking, asked_own, span_of, span_all}
-use Rattle.plan.specs.Found.{Found, refused, found, and_then}
-use Rattle.plan.specs.Read.{Head, head, is_code, many_in, later_of, start_form}
-use Rattle.plan.specs.Spell.{exchange_numbers, gaps_of, gap, later}
-use Rattle.plan.specs.Tree.{Exp, Own, empty, to_partner, to_held, from_partner, from_asking, send, receive, set, raise, leave, choose, repeat, sequence, flow, pick, scope, arm, kind, is_pick, numbers_of, Act, act, Acts, none, more, Plan, size, count}
-use Rattle.plan.specs.Within.{variables_within, from1}
+use Rattle.plan.specs.Agree.{asking, asked_own, span_of, span_all}
+use Rattle.plan.specs.Found.{Found}
+use Rattle.plan.specs.Read.{Head, is_code, many_in, later_of, start_form}
+use Rattle.plan.specs.Spell.{exchange_numbers, gaps_of, later}
+use Rattle.plan.specs.Tree.{Exp, Own, empty, to_partner, to_held, from_partner, from_asking, send, receive, set, raise, leave, choose, repeat, sequence, flow, pick, scope, arm, kind, is_pick, numbers_of, Act, act, Acts, none, more, size, count}
+use Rattle.plan.specs.Within.{from1}
 use Rattle.plan.proofs.Accepts.{both}
 use Rattle.plan.proofs.ByKind.{last_code}
-use Rattle.plan.proofs.Finds.{Finds, finds-refused, finds-itself, finds-found, finds-cond, finds-code, finds-then, finds-so, finds-both}
+use Rattle.plan.proofs.Finds.{Finds, finds-refused, finds-itself, finds-found, finds-cond, finds-code, finds-then}
 use Rattle.plan.proofs.RowsAsked.{Exchanged, AsksOwn, Asks, AsksAll}
-use Rattle.writer.specs.Rows.{expression_rows, own_rows, alone, act_rows, acts_rows}
-use Rattle.writer.specs.Reading.{cell, tuple, expression_at, exchange_fits, stores_reply, arm_at, code_at, parts_fit, with_expression, parts_at, head_at, count_at, fault_number_at, numbered_at, numbered_scope_at, whole_at, arm_with, reads_at, act_at, root_at, head_fits, plan_at, in_rows, row_asks}
-use Rattle.writer.proofs.Lines.{Row, Stands, nil, cons, tuple-long}
-use Rattle.writer.proofs.OwnReturns.{There, row-finds, Coded, code-finds}
+use Rattle.writer.specs.Rows.{own_rows, alone, act_rows, acts_rows}
+use Rattle.writer.specs.Reading.{cell, tuple, expression_at, exchange_fits, stores_reply, arm_at, parts_fit, with_expression, parts_at, head_at, count_at, fault_number_at, numbered_at, numbered_scope_at, whole_at, arm_with, reads_at, act_at, root_at, head_fits, plan_at, in_rows, row_asks}
+use Rattle.writer.proofs.Lines.{Row, Stands, cons, tuple-long}
+use Rattle.writer.proofs.OwnReturns.{row-finds, code-finds}
 
 -- What is asked for is within the limits.
 

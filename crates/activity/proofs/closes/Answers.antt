@@ -4,8 +4,8 @@ use Rattle.activity.proofs.closes.Goals as goal
 
 ruleset cases = (closes-is, closes-full)
 
-pub returns-then-n-lt32 : goal.returns-then-n-lt32
-returns-then-n-lt32 c = search cases
+pub returns-then-f-lt32 : goal.returns-then-f-lt32
+returns-then-f-lt32 c = search cases
 
-pub returns : goal.returns
-returns c = search cases
+pub returns-else-f-lt32 : goal.returns-else-f-lt32
+returns-else-f-lt32 c = search cases

@@ -4,11 +4,11 @@ use Rattle.activity.proofs.decides.Goals as goal
 
 ruleset cases = (decide-raises, decide-over, decide-again)
 
-pub returns-then-value-eq0 : goal.returns-then-value-eq0
-returns-then-value-eq0 c = search cases
+pub returns-in-Err : goal.returns-in-Err
+returns-in-Err c = search cases
 
-pub returns-in-Fault : goal.returns-in-Fault
-returns-in-Fault c = search cases
+pub returns-in-Ok-eq0 : goal.returns-in-Ok-eq0
+returns-in-Ok-eq0 c = search cases
 
-pub returns-else-value-eq0 : goal.returns-else-value-eq0
-returns-else-value-eq0 c = search cases
+pub returns-in-Ok : goal.returns-in-Ok
+returns-in-Ok c = search cases

@@ -1,8 +1,8 @@
 -- `activity::itself` meets its contract. Assumes nothing.
-use Rattle.activity.proofs.StepReturns.{itself-far, itself-of, itself-closes, itself-numbered, itself-hands, itself-sends, itself-sends-held, itself-receives, itself-receives-asking, itself-raises, itself-leaves, itself-runs}
+use Rattle.activity.proofs.StepReturns.{itself-far, itself-of, itself-close, itself-hands, itself-send, itself-receive, itself-raises, itself-leaves, itself-runs}
 use Rattle.activity.proofs.itself.Goals as goal
 
-ruleset cases = (itself-far, itself-of, itself-closes, itself-numbered, itself-hands, itself-sends, itself-sends-held, itself-receives, itself-receives-asking, itself-raises, itself-leaves, itself-runs)
+ruleset cases = (itself-far, itself-of, itself-close, itself-hands, itself-send, itself-receive, itself-raises, itself-leaves, itself-runs)
 
 pub returns-then-k-ge256 : goal.returns-then-k-ge256
 returns-then-k-ge256 c = search cases
@@ -10,14 +10,8 @@ returns-then-k-ge256 c = search cases
 pub returns-in-1 : goal.returns-in-1
 returns-in-1 c = search cases
 
-pub returns-in-17 : goal.returns-in-17
-returns-in-17 c = search cases
-
 pub returns-in-2 : goal.returns-in-2
 returns-in-2 c = search cases
-
-pub returns-in-18 : goal.returns-in-18
-returns-in-18 c = search cases
 
 pub returns-in-3 : goal.returns-in-3
 returns-in-3 c = search cases
@@ -39,9 +33,6 @@ returns-in-7 c = search cases
 
 pub returns-in-11 : goal.returns-in-11
 returns-in-11 c = search cases
-
-pub returns-in-14 : goal.returns-in-14
-returns-in-14 c = search cases
 
 pub returns-in-12 : goal.returns-in-12
 returns-in-12 c = search cases

@@ -5,11 +5,11 @@ use Rattle.activity.proofs.sends.Goals as goal
 
 ruleset cases = (send-sends, send-misses, send-raises)
 
-pub returns-then-reaches : goal.returns-then-reaches
-returns-then-reaches c = search (cases, rules)
+pub returns-then-not-all_bound : goal.returns-then-not-all_bound
+returns-then-not-all_bound c = search (cases, rules)
 
-pub returns-then-all_bound : goal.returns-then-all_bound
-returns-then-all_bound c = search (cases, rules)
+pub returns-then-not-reaches : goal.returns-then-not-reaches
+returns-then-not-reaches c = search (cases, rules)
 
-pub returns : goal.returns
-returns c = search (cases, rules)
+pub returns-else-not-reaches : goal.returns-else-not-reaches
+returns-else-not-reaches c = search (cases, rules)

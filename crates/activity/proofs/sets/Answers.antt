@@ -4,8 +4,8 @@ use Rattle.activity.proofs.sets.Goals as goal
 
 ruleset cases = (set-raises, set-binds)
 
-pub returns-in-Fault : goal.returns-in-Fault
-returns-in-Fault c = search cases
+pub returns-in-Err : goal.returns-in-Err
+returns-in-Err c = search cases
 
-pub returns-in-Value : goal.returns-in-Value
-returns-in-Value c = search cases
+pub returns-in-Ok : goal.returns-in-Ok
+returns-in-Ok c = search cases

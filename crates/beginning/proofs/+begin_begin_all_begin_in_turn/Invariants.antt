@@ -7,7 +7,7 @@ abbrev pub decreases-begin : goal.decreases-begin
 decreases-begin l = (256 - l.k) * 2
 
 abbrev pub invariant-begin_all-loop-i : goal.invariant-begin_all-loop-i
-invariant-begin_all-loop-i l = (l.c ≤ l.i) × Joining l.table l.e l.c l.initial.m l.i l.m l.over
+invariant-begin_all-loop-i l = (l.c ≤ l.i) × Joining l.table l.e l.c l.fn.marks l.i l.m l.over
 
 abbrev pub decreases-begin_all-loop-i : goal.decreases-begin_all-loop-i
 decreases-begin_all-loop-i l = l.e - l.i
@@ -16,7 +16,7 @@ abbrev pub decreases-begin_all : goal.decreases-begin_all
 decreases-begin_all l = (256 - l.c) * 2 + 1
 
 abbrev pub invariant-begin_in_turn-loop-j : goal.invariant-begin_in_turn-loop-j
-invariant-begin_in_turn-loop-j l = (l.c ≤ l.j) × Turning l.table l.e l.c l.initial.m l.j l.m
+invariant-begin_in_turn-loop-j l = (l.c ≤ l.j) × Turning l.table l.e l.c l.fn.marks l.j l.m
 
 abbrev pub decreases-begin_in_turn-loop-j : goal.decreases-begin_in_turn-loop-j
 decreases-begin_in_turn-loop-j l = l.e - l.j

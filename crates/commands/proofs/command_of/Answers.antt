@@ -1,40 +1,20 @@
--- `commands::command_of` meets its contract. Assumes nothing.
-use native.Mathlib.Omega.{arith}
-use Rattle.commands.proofs.Parts.{lines, insides}
+-- `commands::command_of` meets its contract: a command with a number has no word that could lie outside. Assumes nothing.
+use Rattle.std.proofs.Common.{◌≡◌, ℕ, List, Result, Ok, Err}
+use Rattle.text.specs.declared.DecimalError.{DecimalError}
+use Rattle.text.specs.Decimals.{decimal_of}
+use Rattle.commands.specs.declared.Numbered.{Numbered}
+use Rattle.commands.specs.declared.Trouble.{Trouble}
+use Rattle.commands.specs.declared.Command.{Command}
+use Rattle.commands.specs.Commands.{number_by, number_of, Inside}
 use Rattle.commands.proofs.command_of.Goals as goal
 
-pub returns-then-begin-end-clause-is : goal.returns-then-begin-end-clause-is
-returns-then-begin-end-clause-is c = search lines
+by_number : (what : Numbered) (s : List ℕ) (d : Result ℕ DecimalError) → Inside s (number_by what d)
+by_number what s (Ok value) = tt
+by_number what s (Err e) = tt
 
-pub returns-then-end-begin-clause-is : goal.returns-then-end-begin-clause-is
-returns-then-end-begin-clause-is c = search lines
+number-inside : (what : Numbered) (s t : List ℕ) {c : Result Command Trouble} → c ≡ number_of what t → Inside s c
+unfolding number_of
+number-inside what s t e = rw e (by_number what s (decimal_of t))
 
-pub returns-then-rest-stop-clause-is : goal.returns-then-rest-stop-clause-is
-returns-then-rest-stop-clause-is c = search lines
-
-pub returns-then-end-begin-2-clause-is : goal.returns-then-end-begin-2-clause-is
-returns-then-end-begin-2-clause-is c = search lines
-
-pub returns-then-rest-stop-2-clause-is : goal.returns-then-rest-stop-2-clause-is
-returns-then-rest-stop-2-clause-is c = search lines
-
-pub returns-in-Nothing-clause-is : goal.returns-in-Nothing-clause-is
-returns-in-Nothing-clause-is c = search lines
-
-pub returns-in-Unknown-clause-is : goal.returns-in-Unknown-clause-is
-returns-in-Unknown-clause-is c = search lines
-
-pub returns-else-begin-end-clause-is : goal.returns-else-begin-end-clause-is
-returns-else-begin-end-clause-is c = search lines
-
-pub returns-else-rest-stop : goal.returns-else-rest-stop
-returns-else-rest-stop c = record { is = search lines; inside = (omega arith, omega arith) }
-
-pub returns-else-rest-stop-2-clause-is : goal.returns-else-rest-stop-2-clause-is
-returns-else-rest-stop-2-clause-is c = search lines
-
-pub returns-else-rest-stop-2-clause-inside : goal.returns-else-rest-stop-2-clause-inside
-returns-else-rest-stop-2-clause-inside c = search insides
-
-pub returns-in-Listed-clause-is : goal.returns-in-Listed-clause-is
-returns-in-Listed-clause-is c = search lines
+pub returns-in_ok-from-in-Numbered-clause-inside : goal.returns-in_ok-from-in-Numbered-clause-inside
+returns-in_ok-from-in-Numbered-clause-inside c = number-inside _ _ _ c.number_of.ensures

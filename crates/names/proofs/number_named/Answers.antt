@@ -1,19 +1,11 @@
--- `names::number_named` meets its contract. The loop's invariant: the search from k on finds what the whole search finds. Assumes nothing.
-use Prim.Native.Nat.{◌-◌}
-use mathlib.Core.Path.{sym, ◌∙◌}
-use native.Mathlib.Omega.{arith}
-use Rattle.names.specs.Named.{is_named}
-use Rattle.names.proofs.NamedReturns.{named-whole, first-here, first-later, first-none}
+-- `names::number_named` meets its contract: where the test does not hold of k, the search from k on goes on from k + 1. Assumes nothing.
+use Rattle.std.proofs.Common.{◌≡◌, ℕ, suc, ◌+◌, Bool, false, ◌∙◌, sym, arith}
+use Rattle.names.specs.Named.{first_from}
 use Rattle.names.proofs.number_named.Goals as goal
 
-pub loop-k-init : goal.loop-k-init
-loop-k-init c = (omega arith, named-whole _ _ _ _)
-
-pub returns-then-is_named : goal.returns-then-is_named
-returns-then-is_named c = sym (c.loop-k.invariant.1 ∙ first-here _ c.loop-k.k _ (omega arith) (sym c.is_named.ensures ∙ c.if-is_named.true))
+later : (n m k : ℕ) (f : ℕ → Bool) → n ≡ suc m → f k ≡ false → first_from n k f ≡ first_from m (k + 1) f
+unfolding first_from
+later n m k f h e = rw (h, e)
 
 pub loop-k-preserved : goal.loop-k-preserved
-loop-k-preserved c = (omega arith, c.loop-k.invariant.1 ∙ first-later _ _ c.loop-k.k _ (omega arith) (sym c.is_named.ensures ∙ c.if-is_named.false))
-
-pub returns : goal.returns
-returns c = sym (c.loop-k.invariant.1 ∙ first-none _ _ _ _ (omega arith) (omega arith))
+loop-k-preserved c = c.loop-k.invariant ∙ later _ _ c.loop-k.k _ (omega arith) (sym c.is_named.ensures ∙ c.if-is_named.false)

@@ -1,25 +1,12 @@
 -- `numbers::put` meets its contract. Assumes nothing.
-use borrow.Author.Rules.{rules}
-use Rattle.numbers.proofs.Writes.{writing-starts, writing-again, writing-inside, writing-next, writing-done, writing-long}
-use native.Mathlib.Omega.{arith}
+use Rattle.numbers.proofs.Writes.{writing-inside, writing-next}
 use Rattle.numbers.proofs.put.Goals as goal
 
-ruleset cases = (writing-starts, writing-again, writing-inside, writing-next, writing-done, writing-long)
-
-pub loop-v-init : goal.loop-v-init
-loop-v-init c = writing-starts _ _ _ (omega arith) (search rules)
-
 pub bounds-out-q : goal.bounds-out-q
-bounds-out-q c = search cases
-
-pub loop-v-preserved : goal.loop-v-preserved
-loop-v-preserved c = search cases
+bounds-out-q c = writing-inside c.loop-v.invariant
 
 pub bounds-out-q-2 : goal.bounds-out-q-2
-bounds-out-q-2 c = search cases
+bounds-out-q-2 c = writing-inside c.loop-v.invariant
 
-pub shape_of-out : goal.shape_of-out
-shape_of-out c = search cases
-
-pub returns : goal.returns
-returns c = search cases
+pub returns-clause-next : goal.returns-clause-next
+returns-clause-next c = writing-next c.loop-v.invariant c.loop-v-test.false

@@ -1,9 +1,6 @@
--- `drawing::output::write_all` is safe and ends. What is written is part of the bytes. Assumes nothing.
-use Rattle.std.proofs.Common.{length, ◌-◌, ◌≤◌}
+-- `drawing::output::write_all` is safe and ends: the measure is what is left of the bytes. Assumes nothing.
+use Rattle.std.proofs.Common.{length}
 use Rattle.drawing.proofs.output.write_all.Given as goal
 
-abbrev pub invariant-loop-done : goal.invariant-loop-done
-invariant-loop-done g l = l.done ≤ length l.bytes
-
-abbrev pub decreases-loop-done : goal.decreases-loop-done
-decreases-loop-done g l = length l.bytes - l.done
+abbrev pub decreases-loop-left : goal.decreases-loop-left
+decreases-loop-left g l = length l.left

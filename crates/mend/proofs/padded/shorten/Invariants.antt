@@ -4,8 +4,8 @@ use lib.ListN.{length}
 use Rattle.mend.proofs.RunReturns.{Shortening}
 use Rattle.mend.proofs.padded.shorten.Given as goal
 
-abbrev pub invariant-loop-at : goal.invariant-loop-at
-invariant-loop-at l = Shortening l.s l.initial.out l.out l.at l.q
+abbrev pub invariant-loop-value : goal.invariant-loop-value
+invariant-loop-value l = Shortening l.s l.initial.out l.out l.at l.q
 
-abbrev pub decreases-loop-at : goal.decreases-loop-at
-decreases-loop-at l = length l.s - l.at
+abbrev pub decreases-loop-value : goal.decreases-loop-value
+decreases-loop-value l = length l.s - l.at

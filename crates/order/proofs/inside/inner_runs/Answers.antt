@@ -1,6 +1,5 @@
 -- `order::inside::inner_runs` meets its contract. Assumes nothing.
 use Rattle.order.proofs.InsideReturns.{scanning-starts, scanning-done, scanning-found, scanning-again, runs-far, scanned-runs}
-use Prim.Native.Nat.{◌-◌}
 use Rattle.order.proofs.inside.inner_runs.Goals as goal
 
 ruleset cases = (scanning-starts, scanning-done, scanning-found, scanning-again, runs-far, scanned-runs)

@@ -5,7 +5,4 @@ use Rattle.order.specs.Begin.{cleared}
 use Rattle.order.proofs.marks.cleared.Given as goal
 
 abbrev pub invariant-loop-i : goal.invariant-loop-i
-invariant-loop-i l = cleared l.initial.i (l.to - l.initial.i) l.initial.m ≡ cleared l.i (l.to - l.i) l.m
-
-abbrev pub decreases-loop-i : goal.decreases-loop-i
-decreases-loop-i l = l.to - l.i
+invariant-loop-i l = cleared l.from (l.to - l.from) l.fn.marks ≡ cleared l.i (l.to - l.i) l.m

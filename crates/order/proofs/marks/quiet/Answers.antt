@@ -1,16 +1,8 @@
 -- `order::marks::quiet` meets its contract. Assumes nothing.
-use Rattle.order.proofs.MarkReturns.{quiet-far, quiet-done, quiet-stop, quiet_next}
-use mathlib.Core.Path.{refl}
-use Prim.Native.Nat.{◌-◌}
+use Rattle.order.proofs.MarkReturns.{quiet-done, quiet-stop, quiet_next}
 use Rattle.order.proofs.marks.quiet.Goals as goal
 
-ruleset cases = (quiet-far, quiet-done, quiet-stop, quiet_next)
-
-pub returns-then-to-gt256 : goal.returns-then-to-gt256
-returns-then-to-gt256 c = search cases
-
-pub loop-i-init : goal.loop-i-init
-loop-i-init c = refl
+ruleset cases = (quiet-done, quiet-stop, quiet_next)
 
 pub returns-then-marks-i-ne-IDLE : goal.returns-then-marks-i-ne-IDLE
 returns-then-marks-i-ne-IDLE c = search cases

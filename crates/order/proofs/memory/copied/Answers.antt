@@ -1,6 +1,5 @@
 -- `order::memory::copied` meets its contract. Assumes nothing.
 use Rattle.order.proofs.MemoryReturns.{copying-starts, copying-done, copying-again}
-use Prim.Native.Nat.{◌-◌}
 use Rattle.order.proofs.memory.copied.Goals as goal
 
 ruleset cases = (copying-starts, copying-done, copying-again)

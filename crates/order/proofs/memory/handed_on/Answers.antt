@@ -1,19 +1,16 @@
 -- `order::memory::handed_on` meets its contract. Assumes nothing.
-use borrow.Author.Rules.{rules}
-use Rattle.order.proofs.MemoryReturns.{handing-far, handing-starts, handing-done, handing-again}
-use Prim.Native.Nat.{◌-◌}
+use Rattle.order.proofs.MemoryReturns.{handing-starts, handing-skips, handing-pushes}
 use Rattle.order.proofs.memory.handed_on.Goals as goal
+use Rattle.order.proofs.memory.handed_on.Goals.{then-is_for, else-is_for}
 
-ruleset cases = (handing-far, handing-starts, handing-done, handing-again)
-
-pub returns-then-p-ge256 : goal.returns-then-p-ge256
-returns-then-p-ge256 c = search cases
+ruleset cases = (handing-starts, handing-skips, handing-pushes)
 
 pub loop-j-init : goal.loop-j-init
-loop-j-init c = (search rules, search cases)
+loop-j-init c = search cases
 
 pub loop-j-preserved : goal.loop-j-preserved
-loop-j-preserved c = (search rules, search cases)
-
-pub returns : goal.returns
-returns c = search cases
+loop-j-preserved c =
+    elim c.if-is_for.branch [
+      | then-is_for w ↦ rw w.o-is (search cases)
+      | else-is_for w ↦ rw w.o-is (search cases)
+    ]

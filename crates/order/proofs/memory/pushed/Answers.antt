@@ -4,8 +4,5 @@ use Rattle.order.proofs.memory.pushed.Goals as goal
 
 ruleset cases = (push-full, push-is)
 
-pub returns-then-n-ge32 : goal.returns-then-n-ge32
-returns-then-n-ge32 c = search cases
-
-pub returns : goal.returns
-returns c = search cases
+pub returns-then-n-lt32 : goal.returns-then-n-lt32
+returns-then-n-lt32 c = search cases

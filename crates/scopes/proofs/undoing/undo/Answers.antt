@@ -9,8 +9,8 @@ ruleset room = (found_inside)
 pub loop-i-init : goal.loop-i-init
 loop-i-init c = search cases
 
-pub returns-in-Nothing : goal.returns-in-Nothing
-returns-in-Nothing c = search cases
+pub returns : goal.returns
+returns c = search cases
 
 pub start_undo-r-requires : goal.start_undo-r-requires
 start_undo-r-requires c = search room
@@ -18,5 +18,5 @@ start_undo-r-requires c = search room
 pub loop-i-preserved : goal.loop-i-preserved
 loop-i-preserved c = search cases
 
-pub returns-else-is_over : goal.returns-else-is_over
-returns-else-is_over c = search cases
+pub returns-then-not-is_over : goal.returns-then-not-is_over
+returns-then-not-is_over c = search cases

@@ -1,12 +1,14 @@
 -- `writer::bytes::bytes_of` meets its contract. Assumes nothing.
-use Rattle.writer.proofs.ByteReturns.{counting-starts, counting-done, counting-large, counting-again, counting-fits}
-use Prim.Native.Nat.{◌-◌}
+use Rattle.writer.proofs.ByteReturns.{counting-starts, counting-done, counting-large, counting-again, counting-fits, sum-small}
 use Rattle.writer.proofs.bytes.bytes_of.Goals as goal
 
-ruleset cases = (counting-starts, counting-done, counting-large, counting-again, counting-fits)
+ruleset cases = (counting-starts, counting-done, counting-large, counting-again, counting-fits, sum-small)
 
 pub loop-r-init : goal.loop-r-init
 loop-r-init c = search cases
+
+pub size_of-sum-requires : goal.size_of-sum-requires
+size_of-sum-requires c = search cases
 
 pub overflow_add-sum : goal.overflow_add-sum
 overflow_add-sum c = search cases

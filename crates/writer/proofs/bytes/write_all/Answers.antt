@@ -1,7 +1,5 @@
 -- `writer::bytes::write_all` meets its contract. Assumes nothing.
-use borrow.Author.Rules.{rules}
 use Rattle.writer.proofs.ByteReturns.{filling-starts, filling-done, filling-long, filling-room, filling-again}
-use Prim.Native.Nat.{◌-◌}
 use Rattle.writer.proofs.bytes.write_all.Goals as goal
 
 ruleset cases = (filling-starts, filling-done, filling-long, filling-room, filling-again)
@@ -10,7 +8,7 @@ pub loop-r-init : goal.loop-r-init
 loop-r-init c = search cases
 
 pub write_numbers-p-requires : goal.write_numbers-p-requires
-write_numbers-p-requires c = (search rules, search cases)
+write_numbers-p-requires c = search cases
 
 pub loop-r-preserved : goal.loop-r-preserved
 loop-r-preserved c = search cases

@@ -1,10 +1,8 @@
 -- `writer::cells::rises` meets its contract. Assumes nothing.
-use Rattle.writer.proofs.CellReturns.{Rising}
-use Prim.Native.Nat.{◌-◌}
+use mathlib.Core.Path.{◌≡◌}
+use lib.ListN.{drop}
+use Rattle.plan.specs.Within.{ascending}
 use Rattle.writer.proofs.cells.rises.Given as goal
 
-abbrev pub invariant-loop-i : goal.invariant-loop-i
-invariant-loop-i l = Rising l.t l.vars l.left l.at l.least l.i
-
-abbrev pub decreases-loop-i : goal.decreases-loop-i
-decreases-loop-i l = l.left - l.i
+abbrev pub invariant-loop-v : goal.invariant-loop-v
+invariant-loop-v l = ascending l.vars 0 l.variables ≡ ascending l.vars l.least (drop l.v-index l.variables)

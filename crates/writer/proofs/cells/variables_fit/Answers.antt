@@ -1,21 +1,15 @@
 -- `writer::cells::variables_fit` meets its contract. Assumes nothing.
-use Rattle.writer.proofs.CellReturns.{fitting-starts, fitting-done, fitting-large, fitting-twice, fitting-again}
-use Prim.Native.Nat.{◌-◌}
+use native.Mathlib.Omega.{arith}
+use Rattle.writer.proofs.CellReturns.{fitting}
 use Rattle.writer.proofs.cells.variables_fit.Goals as goal
+use Rattle.writer.proofs.cells.variables_fit.Goals.{then-vars-v-via-then-vars-v, then-vars-v-via-else-vars-v+then-is_among, then-once, else-once}
 
-ruleset cases = (fitting-starts, fitting-done, fitting-large, fitting-twice, fitting-again)
-
-pub loop-i-init : goal.loop-i-init
-loop-i-init c = search cases
-
-pub returns-then-is_twice : goal.returns-then-is_twice
-returns-then-is_twice c = search cases
+pub returns-then-vars-v : goal.returns-then-vars-v
+returns-then-vars-v c =
+    elim c.then-vars-v.branch [
+      | then-vars-v-via-then-vars-v w ↦ grind (arith, fitting)
+      | then-vars-v-via-else-vars-v+then-is_among w ↦ elim w.if-once.branch [ then-once v ↦ grind (arith, fitting) | else-once v ↦ grind (arith, fitting) ]
+    ]
 
 pub loop-i-preserved : goal.loop-i-preserved
-loop-i-preserved c = search cases
-
-pub returns-else-v-vars : goal.returns-else-v-vars
-returns-else-v-vars c = search cases
-
-pub returns : goal.returns
-returns c = search cases
+loop-i-preserved c = elim c.if-once.branch [ then-once w ↦ grind (arith, fitting) | else-once w ↦ grind (arith, fitting) ]

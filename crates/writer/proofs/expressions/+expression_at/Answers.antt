@@ -1,34 +1,15 @@
--- Checking the rows of an expression meets its contract: the levels left fall. Assumes nothing.
-use Rattle.writer.proofs.ExpressionReturns.{at-no, at-deep, at-falls, at_leaf, at_left, at_right}
-use Prim.Native.Nat.{◌-◌}
+-- Checking the rows of an expression meets its contract. Assumes nothing.
+use Rattle.writer.proofs.ExpressionReturns.{at-no, at_leaf, at_left, at_right}
 use Rattle.writer.proofs.expressions.+expression_at.Goals as goal
 
-ruleset cases = (at-no, at_leaf)
+pub returns-in_err-code : goal.returns-in_err-code
+returns-in_err-code t c = at-no _ _ _ _ c.in_err-code.ensures.is c.from_residual.ensures.1
 
-ruleset right = (at-no, at_left, at_right)
+pub returns-then-code-lt2 : goal.returns-then-code-lt2
+returns-then-code-lt2 t c = at_leaf _ _ _ _ c.in_ok-code.ensures.is c.if-code-lt2.true
 
-ruleset deep = (at-deep, at-falls)
+pub returns-in_err-right : goal.returns-in_err-right
+returns-in_err-right t c = at_left _ _ _ _ c.in_ok-code.ensures.is c.if-code-lt2.false c.in_err-right.ensures c.from_residual-in_err-right.ensures.1
 
-pub returns-then-value-lt2 : goal.returns-then-value-lt2
-returns-then-value-lt2 t c = search cases
-
-pub overflow_sub-depth : goal.overflow_sub-depth
-overflow_sub-depth t c = search deep
-
-pub expression_at-left-requires : goal.expression_at-left-requires
-expression_at-left-requires t c = search deep
-
-pub overflow_sub-depth-in-Next : goal.overflow_sub-depth-in-Next
-overflow_sub-depth-in-Next t c = search deep
-
-pub expression_at-requires : goal.expression_at-requires
-expression_at-requires t c = search deep
-
-pub returns-in-Refused : goal.returns-in-Refused
-returns-in-Refused t c = search right
-
-pub returns-in-Refused-left : goal.returns-in-Refused-left
-returns-in-Refused-left t c = search right
-
-pub returns-in-Next : goal.returns-in-Next
-returns-in-Next t c = search right
+pub returns : goal.returns
+returns t c = at_right _ _ _ _ c.in_ok-code.ensures.is c.if-code-lt2.false c.in_ok-right.ensures c.expression_at-2.ensures

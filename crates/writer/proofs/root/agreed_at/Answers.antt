@@ -1,14 +1,15 @@
 -- `writer::root::agreed_at` meets its contract. Assumes nothing.
-use Rattle.writer.proofs.HearReturns.{agreed-no, agreed-yes, agreed-differs}
+use Rattle.writer.specs.Reading.{agreed_at}
+use Rattle.writer.proofs.HearReturns.{agreed-yes, agreed-differs}
+use Rattle.writer.proofs.Told.{passed-on}
 use Rattle.writer.proofs.root.agreed_at.Goals as goal
 
-ruleset cases = (agreed-no, agreed-yes, agreed-differs)
+pub returns-in_err-next : goal.returns-in_err-next
+unfolding agreed_at
+returns-in_err-next c = passed-on _ _ _ _ c.in_err-next.ensures.is c.from_residual.ensures.1
 
-pub returns-then-differs-eq0 : goal.returns-then-differs-eq0
-returns-then-differs-eq0 c = search cases
+pub returns-then-differs-ne0 : goal.returns-then-differs-ne0
+returns-then-differs-ne0 c = agreed-differs _ c.in_ok-next.ensures.is c.in_ok-next.ensures.hears c.if-differs-ne0.true
 
-pub returns-in-Refused : goal.returns-in-Refused
-returns-in-Refused c = search cases
-
-pub returns-else-differs-eq0 : goal.returns-else-differs-eq0
-returns-else-differs-eq0 c = search cases
+pub returns : goal.returns
+returns c = agreed-yes _ c.in_ok-next.ensures.is c.in_ok-next.ensures.hears c.if-differs-ne0.false

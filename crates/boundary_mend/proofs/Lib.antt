@@ -1,2 +1,0 @@
--- What other crates' proofs cite of this one.
-pub mod Returns

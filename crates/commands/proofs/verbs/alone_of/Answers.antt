@@ -1,6 +1,0 @@
--- `commands::verbs::alone_of` meets its contract. Assumes nothing.
-use Rattle.commands.proofs.FirstWord.{chains}
-use Rattle.commands.proofs.verbs.alone_of.Goals as goal
-
-pub returns : goal.returns
-returns c = search chains

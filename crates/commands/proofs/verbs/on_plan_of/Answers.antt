@@ -1,6 +1,0 @@
--- `commands::verbs::on_plan_of` meets its contract. Assumes nothing.
-use Rattle.commands.proofs.FirstWord.{chains}
-use Rattle.commands.proofs.verbs.on_plan_of.Goals as goal
-
-pub returns : goal.returns
-returns c = search chains

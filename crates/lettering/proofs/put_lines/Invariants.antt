@@ -1,9 +1,0 @@
--- `lettering::put_lines` is safe and ends. Assumes nothing.
-use Prim.Native.Nat.{◌-◌}
-use Rattle.lettering.proofs.put_lines.Given as goal
-
-abbrev pub invariant-loop-n : goal.invariant-loop-n
-invariant-loop-n l = Unit {0}
-
-abbrev pub decreases-loop-n : goal.decreases-loop-n
-decreases-loop-n l = l.activities - l.n
