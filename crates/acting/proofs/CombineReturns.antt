@@ -2,6 +2,7 @@
 use mathlib.Core.Path.{◌≡◌, refl, sym, ap, subst, ◌∙◌}
 use mathlib.Core.Bool.{Bool, true, false, cond, not, ◌&&◌, false≢true, and-false}
 use mathlib.Core.List.{List, [], ◌∷◌}
+use mathlib.Core.Logic.{◌⊎◌, inl, inr}
 use Prim.Native.Nat.{ℕ, zero, suc, ◌+◌, ◌<◌, ◌≤◌}
 use native.Mathlib.Omega.{arith}
 use borrow.Author.Tests.{eq-eqb, ne_eqb, lt-ltb, le-ltb, ltb-true}
@@ -434,24 +435,29 @@ unfolding Stands size
 kind-there {t} {k} own l {n} a s = sym (a.is (omega (arith, stands-inside (act own l) k t s)) ∙ s.first.row.kind)
 
 module _ {t : List ℕ} {q k : ℕ} {o : Order} where
-  pub replaced-receive : {n : ℕ} → KindOf t k n → n ≡ 2 → {r : Went} → r ≡ raises_of conflicting_receive k o → Performs t in_place q k o r
+  replaced-receive : {n : ℕ} → KindOf t k n → n ≡ 2 → {r : Went} → r ≡ raises_of conflicting_receive k o → Performs t in_place q k o r
   unfolding replaces
   replaced-receive a e y = record { is = λ own l d s g. y ∙ sym (ap went (in_place_lem own l q k o true (rw (kind-there own l a s ∙ e)))) }
 
-  pub replaced-asking : {n : ℕ} → KindOf t k n → n ≡ 18 → {r : Went} → r ≡ raises_of conflicting_receive k o → Performs t in_place q k o r
+  replaced-asking : {n : ℕ} → KindOf t k n → n ≡ 18 → {r : Went} → r ≡ raises_of conflicting_receive k o → Performs t in_place q k o r
   unfolding replaces
   replaced-asking a e y = record { is = λ own l d s g. y ∙ sym (ap went (in_place_lem own l q k o true (rw (kind-there own l a s ∙ e)))) }
 
-  pub replaced-arm : {n : ℕ} → KindOf t k n → n ≡ 255 → {r : Went} → r ≡ raises_of conflicting_receive k o → Performs t in_place q k o r
+  replaced-arm : {n : ℕ} → KindOf t k n → n ≡ 255 → {r : Went} → r ≡ raises_of conflicting_receive k o → Performs t in_place q k o r
   unfolding replaces
   replaced-arm a e y = record { is = λ own l d s g. y ∙ sym (ap went (in_place_lem own l q k o true (rw (kind-there own l a s ∙ e)))) }
 
-  pub replaced-other : {n : ℕ} → KindOf t k n → (n ≡ 2 → ⊥) → (n ≡ 18 → ⊥) → (n ≡ 255 → ⊥) → {r : Went} → StepsAt t q k o r → Performs t in_place q k o r
+  pub replaced-one : {n : ℕ} → KindOf t k n → (n ≡ 2) ⊎ ((n ≡ 18) ⊎ (n ≡ 255)) → {r : Went} → r ≡ raises_of conflicting_receive k o → Performs t in_place q k o r
+  replaced-one a (inl e) y = replaced-receive a e y
+  replaced-one a (inr (inl e)) y = replaced-asking a e y
+  replaced-one a (inr (inr e)) y = replaced-arm a e y
+
+  pub replaced-other : {n : ℕ} → KindOf t k n → ((n ≡ 2) ⊎ ((n ≡ 18) ⊎ (n ≡ 255)) → ⊥) → {r : Went} → StepsAt t q k o r → Performs t in_place q k o r
   unfolding replaces
-  replaced-other {n} a e f d y =
+  replaced-other {n} a e y =
       record {
         is = λ own l i s g.
-            y.is own l i s g ∙ sym (ap went (in_place_lem own l q k o false (rw (unlike own l s 2 e, unlike own l s 18 f, unlike own l s 255 d))));
+            y.is own l i s g ∙ sym (ap went (in_place_lem own l q k o false (rw (unlike own l s 2 (λ z. e (inl z)), unlike own l s 18 (λ z. e (inr (inl z))), unlike own l s 255 (λ z. e (inr (inr z)))))));
       }
     where
       unlike : (own : Own) (l : Acts) → Stands (act own l) k t → (m : ℕ) → (n ≡ m → ⊥) → eqb (kind own) m ≡ false

@@ -2,6 +2,7 @@
 use mathlib.Core.Path.{◌≡◌, refl, sym, ap, ◌∙◌}
 use mathlib.Core.Bool.{true, not, ◌||◌, ◌&&◌}
 use mathlib.Core.List.{List, ◌∷◌}
+use mathlib.Core.Logic.{◌⊎◌, inl, inr}
 use Prim.Native.Nat.{ℕ, zero, suc, ◌+◌, ◌*◌, ◌<◌, ◌≤◌}
 use native.Mathlib.Numerals.{add-one}
 use native.Mathlib.Omega.{arith}
@@ -122,7 +123,7 @@ module _ (t : List ℕ) (n x : ℕ) (xs : List ℕ) (o : Order) where
         go : (a : Act) → Stands a x t → r ≡ bind_act a xs o
         go (act own l) s = f own l s
 
-    pub takes-receive : kd ≡ 2 → {r : Order} → BindsRow t x xs o r → TakesOrder t n x xs o r
+    takes-receive : kd ≡ 2 → {r : Order} → BindsRow t x xs o r → TakesOrder t n x xs o r
     unfolding bind_own
     takes-receive h {r} b = by_row (λ own l s.
         of-kind 2 (λ w. Stands (act w l) x t → r ≡ bind_own w xs o) (λ p y vs s. b.is vs (receive-names t x p y vs l s)) own (sym (row-kind q own l s) ∙ h) s)
@@ -136,10 +137,14 @@ module _ (t : List ℕ) (n x : ℕ) (xs : List ℕ) (o : Order) where
         rw z.variable at (b.is vs z.names (rw z.variable z.small)))
         own (sym (row-kind q own l s) ∙ h) s)
 
-    pub takes-arm : kd ≡ 255 → {r : Order} → BindsRow t x xs o r → TakesOrder t n x xs o r
+    takes-arm : kd ≡ 255 → {r : Order} → BindsRow t x xs o r → TakesOrder t n x xs o r
     unfolding bind_own
     takes-arm h {r} b = by_row (λ own l s.
         of-kind 255 (λ w. Stands (act w l) x t → r ≡ bind_own w xs o) (λ p y vs s. b.is vs (arm-names t x p y vs l s)) own (sym (row-kind q own l s) ∙ h) s)
+
+    pub takes-row : (kd ≡ 2) ⊎ (kd ≡ 255) → {r : Order} → BindsRow t x xs o r → TakesOrder t n x xs o r
+    takes-row (inl e) b = takes-receive e b
+    takes-row (inr e) b = takes-arm e b
 
     no-take : (kd ≡ 2 → ⊥) → (kd ≡ 18 → ⊥) → (kd ≡ 255 → ⊥) → (own : Own) → kind own ≡ kd → o ≡ bind_own own xs o
     unfolding bind_own kind
@@ -159,5 +164,5 @@ module _ (t : List ℕ) (n x : ℕ) (xs : List ℕ) (o : Order) where
     no-take h g i (scope ns u) e = refl
     no-take h g i (arm p y vs) e = absurd (i (sym e))
 
-    pub takes_none : (kd ≡ 2 → ⊥) → (kd ≡ 18 → ⊥) → (kd ≡ 255 → ⊥) → TakesOrder t n x xs o o
-    takes_none h g i = by_row (λ own l s. no-take h g i own (sym (row-kind q own l s)))
+    pub takes_none : ((kd ≡ 2) ⊎ (kd ≡ 255) → ⊥) → (kd ≡ 18 → ⊥) → TakesOrder t n x xs o o
+    takes_none h g = by_row (λ own l s. no-take (λ e. h (inl e)) g (λ e. h (inr e)) own (sym (row-kind q own l s)))

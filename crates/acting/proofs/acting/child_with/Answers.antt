@@ -5,9 +5,6 @@ use Rattle.acting.proofs.acting.child_with.Goals as goal
 
 ruleset cases = (seeing-starts, seeing-done, seeing-found, seeing-again)
 
-pub loop-j-init : goal.loop-j-init
-loop-j-init c = search cases
-
 pub returns-then-t-n : goal.returns-then-t-n
 returns-then-t-n c = search cases
 

@@ -1,12 +1,8 @@
 -- `settling::conflict::same_thing` meets its contract. Assumes nothing.
-use Prim.Native.Nat.{◌-◌}
-use Rattle.settling.proofs.ConflictReturns.{equal-starts, equal-again, equal-differs, equal-done}
+use Rattle.settling.proofs.ConflictReturns.{equal-again, equal-differs, equal-done}
 use Rattle.settling.proofs.conflict.same_thing.Goals as goal
 
-ruleset cases = (equal-starts, equal-again, equal-differs, equal-done)
-
-pub loop-i-init : goal.loop-i-init
-loop-i-init c = search cases
+ruleset cases = (equal-again, equal-differs, equal-done)
 
 pub returns-then-table-j : goal.returns-then-table-j
 returns-then-table-j c = search cases
