@@ -8,15 +8,15 @@ use native.Mathlib.Omega.{arith}
 use borrow.Author.Tests.{eq-eqb, ne_eqb, lt-ltb, le-ltb, ltb-true}
 use lib.Dec.{eqb, ltb}
 use lib.ListN.{length}
-use Rattle.plan.specs.Tree.{to_partner, to_held, from_partner, from_asking, Own, empty, send, receive, set as setting, raise, leave, choose, repeat, sequence, flow, pick, scope, arm, kind, is_scope, has_undo, numbers_of, general_part, undo_part, is_pick, Act, act, Acts, none, more, size, sizes}
+use Rattle.plan.specs.Tree.{to_partner, to_held, from_partner, from_asking, Own, empty, send, receive, set as setting, raise, leave, choose, repeat, sequence, flow, pick, scope, arm, kind, is_scope, has_undo, numbers_of, general_part, undo_part, is_pick, Act, act, Acts, more, size, sizes}
 use Rattle.order.specs.declared.Order.{Order}
 use Rattle.order.specs.declared.Spot.{Spot}
 use Rattle.order.specs.declared.Way.{Way}
 use Rattle.order.specs.declared.Way.TheVariants.{Running, Over, Raising, Leaving, Undone, UndoRaising}
 use Rattle.order.specs.declared.Went.{Went}
-use Rattle.order.specs.Acting.{finishes, raises, again, is_part, joins, goes_on, in_scope, combines, Actor, its_own, in_place, replaces, performs, itself, arms, step_in, step_among}
+use Rattle.order.specs.Acting.{finishes, raises, again, is_part, joins, goes_on, in_scope, combines, Actor, in_place, replaces, performs, itself, arms, step_in, step_among}
 use Rattle.order.specs.Answering.{KindOf, scope_kind, went, outcome, is_over, of_undo, Made, scope_act, SpotAt, UndoRow, Makes, runs_of, finishes_of, StepsAt, Among, ChildWith, Arms, Follows, JoinsAt, Through, InScope, has_parts, GoesOn, Combines, raises_of, actor_of, Performs, PartOf, StepsIn}
-use Rattle.order.specs.Begin.{part, part_at, begin_after}
+use Rattle.order.specs.Begin.{part_at, begin_after}
 use Rattle.order.specs.Event.{Event}
 use Rattle.order.specs.Expression.{conflicting_receive}
 use Rattle.order.specs.Lists.{only}
@@ -29,39 +29,6 @@ use Rattle.order.proofs.Owns.{of-kind}
 use Rattle.order.proofs.PartReturns.{spot-parts, spot-undo}
 use Rattle.order.proofs.Standing.{size-pos, stands-end, stands-inside, row-kind, scope-kind, own-scope, first-at, scope-line, numbered-undo, if-parts}
 use Rattle.order.proofs.MemoryReturns.{closings-are}
-
--- `has_parts`
-pub parts_low : (n : ℕ) → n < 6 → false ≡ has_parts n
-parts_low n h = rw (lt-ltb n 6 h)
-
-pub parts-high : (n : ℕ) → 6 ≤ n → ltb n 11 ≡ has_parts n
-parts-high n h = rw (le-ltb n 6 h)
-
--- `of_undo`
-module _ {w : Way} where
-  pub undo-running : w ≡ Running → false ≡ of_undo w
-  unfolding of_undo
-  undo-running e = rw e
-
-  pub undo-over : w ≡ Over → false ≡ of_undo w
-  unfolding of_undo
-  undo-over e = rw e
-
-  pub undo-raising : {x : ℕ} → w ≡ Raising x → false ≡ of_undo w
-  unfolding of_undo
-  undo-raising e = rw e
-
-  pub undo-leaving : w ≡ Leaving → false ≡ of_undo w
-  unfolding of_undo
-  undo-leaving e = rw e
-
-  pub undo-undone : w ≡ Undone → true ≡ of_undo w
-  unfolding of_undo
-  undo-undone e = rw e
-
-  pub undo-undo_raising : {x : ℕ} → w ≡ UndoRaising x → true ≡ of_undo w
-  unfolding of_undo
-  undo-undo_raising e = rw e
 
 -- `goes_through`
 through-is : (v : Bool) (k : ℕ) (w : Way) (o : Order)

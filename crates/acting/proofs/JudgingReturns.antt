@@ -1,24 +1,20 @@
 -- The returns of the functions that judge what is open after a step. Assumes nothing.
-use Prim.Native.Nat.{ℕ, ◌<◌, ◌≤◌}
+use Prim.Native.Nat.{ℕ, ◌<◌}
 use native.Mathlib.Omega.{arith}
-use mathlib.Core.Path.{◌≡◌, refl, sym, ap, subst, ◌∙◌}
+use mathlib.Core.Path.{◌≡◌, refl, sym, ap, ◌∙◌}
 use mathlib.Core.Bool.{Bool, true, false}
 use mathlib.Core.List.{List, []}
 use lib.Dec.{ltb}
 use borrow.Author.Tests.{lt-ltb, ltb-true}
 use Rattle.std.specs.Prelude.{Option, Some}
 use Rattle.plan.specs.Tree.{Plan}
-use Rattle.order.specs.declared.End.{End}
-use Rattle.order.specs.declared.End.TheVariants.{None, Well, Handled, Failed, Left}
 use Rattle.order.specs.declared.Next.{Next}
 use Rattle.order.specs.declared.Order.{Order}
-use Rattle.order.specs.Acting.{its_own, in_place, Moved, acted}
+use Rattle.order.specs.Acting.{its_own, in_place, acted}
 use Rattle.order.specs.Answering.{next_of, moved_as, goes_on_after, Spelled, ActsOrder, Settles, StepsOrder}
-use Rattle.order.specs.Judging.{Verdict, clash, conflict, judged, spare, settled, step_order}
-use Rattle.order.specs.Room.{room_plan}
-use Rattle.order.specs.State.{closings}
+use Rattle.order.specs.Judging.{clash, conflict, spare, settled, step_order}
 use Rattle.settling.specs.Answering.{Clashes, weight_in, Lowers}
-use Rattle.settling.proofs.Formed.{Shaped, shaped}
+use Rattle.settling.proofs.Formed.{shaped}
 use Rattle.settling.proofs.Settled.{any-log, settled-ended, goes_none, clash-is, clash-room, settled-clear, raise-falls, settled-clash}
 use Rattle.settling.proofs.Weighing.{weight-spare}
 

@@ -9,7 +9,6 @@ use borrow.Author.Tests.{eq-eqb, ne_eqb, lt-ltb, le-ltb, ltb-false}
 use lib.Dec.{eqb, ltb}
 use Rattle.plan.specs.Tree.{Act, act, Acts, none, more, Plan, size, sizes, count}
 use Rattle.order.specs.declared.Closing.{Closing}
-use Rattle.order.specs.declared.End.{End}
 use Rattle.order.specs.declared.End.TheVariants.{None, Well, Handled, Failed, Left}
 use Rattle.order.specs.declared.Next.{Next}
 use Rattle.order.specs.declared.Order.{Order}
@@ -25,7 +24,7 @@ use Rattle.order.specs.Room.{has_room, room_in, room_among, room_plan}
 use Rattle.order.specs.Scope.{Scope, Outcome, root_of, from_body, from_fault}
 use Rattle.order.specs.Stands as standing
 use Rattle.order.specs.Stands.{PlanStands}
-use Rattle.order.specs.State.{closings, no_order}
+use Rattle.order.specs.State.{closings}
 use Rattle.order.proofs.Deciding.{yes, no}
 use Rattle.acting.proofs.CombineReturns.{body_same, fault-same}
 use Rattle.order.proofs.PlanStands.{plan-stands}
@@ -183,7 +182,3 @@ module _ (t : List ℕ) (activities : ℕ) (v : Actor) (x : ℕ) (o : Order) {z 
         = e ∙ (sym (fault-same (root_of q) R) ∙ sym (ap went (no (ltb x (size q.body)) (from_body (root_of q) _) (from_fault (root_of q) R) (le-ltb _ _ m)))) in
         (rw f at c) ∙ sym (moved_same (step_root v q x o));
   }
-
--- `ended`
-pub ended_is : (e : End) (x : ℕ) {o : Order} → o ≡ no_order → ◌≡◌ {A = Next} (record { end = e; fault = x; order = o }) (ended_of e x)
-ended_is e x i = rw i

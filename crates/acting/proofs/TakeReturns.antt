@@ -1,6 +1,6 @@
 -- The returns of the functions by which an order takes a message. Assumes nothing.
 use mathlib.Core.Path.{◌≡◌, refl, sym, ap, ◌∙◌}
-use mathlib.Core.Bool.{true, not, ◌||◌, ◌&&◌}
+use mathlib.Core.Bool.{true, not}
 use mathlib.Core.List.{List, ◌∷◌}
 use mathlib.Core.Logic.{◌⊎◌, inl, inr}
 use Prim.Native.Nat.{ℕ, zero, suc, ◌+◌, ◌*◌, ◌<◌, ◌≤◌}
@@ -10,10 +10,9 @@ use borrow.Author.Tests.{le-ltb, ltb-true}
 use lib.Dec.{eqb, ltb}
 use lib.ListN.{length, get_or, drop, drop_of_length-le}
 use lib.Seq.{drop-cons, drop-drop, get_or-drop}
-use Rattle.plan.specs.Found.{among}
 use Rattle.plan.specs.Spells.{variables_of}
 use Rattle.plan.specs.Table.{row_of}
-use Rattle.plan.specs.Tree.{From, from_partner, from_asking, Own, empty, send, receive, set as setting, raise, leave, choose, repeat, sequence, flow, pick, scope, arm, kind, Act, act, Acts, none, more, size, sizes, count}
+use Rattle.plan.specs.Tree.{from_partner, from_asking, Own, empty, send, receive, set as setting, raise, leave, choose, repeat, sequence, flow, pick, scope, arm, kind, Act, act, Acts, none, more, size, sizes, count}
 use Rattle.plan.specs.Within.{own_within, exchange_within}
 use Rattle.plan.proofs.Accepts.{both}
 use Rattle.order.specs.declared.Order.{Order}
@@ -59,10 +58,6 @@ module _ {t : List ℕ} {k : ℕ} {xs : List ℕ} {o₀ : Order} {i : ℕ} {o : 
         w.is vs m
         ∙ (ap (λ (l : List ℕ). bind_all l (drop i xs) o) c ∙ bind-next (get_or vs i 0) (drop (i + 1) vs) (drop i xs) (drop (i + 1) xs) (get_or xs i 0) o p d f y);
   }
-
--- `bind_asking`: the reply partner after the tuple
-pub asking-binds : {t : List ℕ} {k : ℕ} {xs : List ℕ} {o p r : Order} → BindsRow t k xs o p → Binds (get_or t (k * 13 + 8) 0) (get_or xs 4 0) p r → BindsAsking t k xs o r
-asking-binds b c = record { is = λ vs m h. c.is h ∙ rw (b.is vs m) }
 
 -- the variables of a receive and of an arm, and the one for the reply partner
 pub record AskingRow (t : List ℕ) (k v : ℕ) (vs : List ℕ) : Type 0 where

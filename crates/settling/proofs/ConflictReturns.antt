@@ -9,20 +9,20 @@ use native.Mathlib.Numerals.{add-one}
 use mathlib.Core.Path.{◌≡◌, refl, sym, ap, subst, ◌∙◌}
 use mathlib.Core.Bool.{Bool, true, false, cond, ◌&&◌, ◌||◌, false≢true, or-true}
 use mathlib.Core.List.{List, [], ◌∷◌, ◌++◌}
-use lib.ListN.{length, get_or, set, take, drop, drop_of_length-le, length-set, length-take, replicate, length-replicate}
-use lib.Seq.{drop-cons, get_or-set_same, get_or-set_other, get_or-take}
+use lib.ListN.{length, get_or, set, take, drop, drop_of_length-le, length-set, length-take, length-drop, replicate, length-replicate}
+use lib.Seq.{drop-cons, get_or-set_same, get_or-set_other, get_or-take, get_or-drop}
 use lib.Dec.{eqb, ltb}
-use borrow.Author.Tests.{eqb-true, eqb-false, eq-eqb, ne_eqb, lt-ltb, le-ltb, ltb-true, ltb-false}
+use lib.Pointwise.{pointwise, bytes_decides}
+use borrow.Author.Tests.{eqb-true, eq-eqb, ne_eqb, ltb-true}
 use Rattle.plan.specs.Spells.{Spells, variables_of}
 use Rattle.plan.specs.Table.{row_of}
-use Rattle.plan.specs.Tree.{to_partner, to_held, From, from_partner, from_asking, partner_from, Own, empty, send, receive, set as setting, raise, leave, choose, repeat, sequence, flow, pick, scope, arm, kind, Act, act, Acts, none, more, Plan}
+use Rattle.plan.specs.Tree.{to_partner, to_held, From, from_partner, from_asking, partner_from, Own, empty, send, receive, set as setting, raise, leave, choose, repeat, sequence, flow, pick, scope, arm, kind, act, Acts, none, Plan}
 use Rattle.order.specs.declared.Order.{Order}
 use Rattle.plan.proofs.TableSpells.{row-variables}
 use Rattle.order.specs.Answering.{scope_kind, Spelled}
-use Rattle.order.specs.Awaited.{Doing, no_step, sends, takes, moves, cuts, closes, doing_of, awaits, Ready, ready_of}
-use Rattle.order.specs.Judging.{is_thing, is_second, Verdict, clear, clash, clash_after, conflict}
+use Rattle.order.specs.Awaited.{takes, doing_of, awaits, Ready}
+use Rattle.order.specs.Judging.{is_thing, is_second, Verdict, clash, clash_after, conflict}
 use Rattle.order.specs.Lists.{alike, some, each}
-use Rattle.order.specs.State.{active}
 use Rattle.order.proofs.Standing.{scope-kind, arm-kind}
 use Rattle.fit.specs.Answering.{Exchange, open_pick, arms_from, ArmAt}
 use Rattle.fit.specs.Lines.{Line, lines_of, is_ready, ready_at, ready_line, Stands, Tabled}
@@ -48,15 +48,6 @@ alike_same (x ∷ l) [] e f = absurd (omega arith)
 alike_same (x ∷ l) (y ∷ m) e f =
     let a : x ≡ y = f 0 (omega arith) in
     rw (eq-eqb x y a) (alike_same l m (omega arith) (λ i h. f (suc i) (omega arith)))
-
--- the columns before the i-th are the same in two rows
-pub record Equal (t : List ℕ) (j k i : ℕ) : Type 0 where
-  pub from : 1 ≤ i
-  pub to : i ≤ 8
-  pub at : (m : ℕ) → 1 ≤ m → m < i → get_or t (j * 13 + m) 0 ≡ get_or t (k * 13 + m) 0
-
-pub equal-starts : (t : List ℕ) (j k : ℕ) → Equal t j k 1
-equal-starts t j k = record { from = omega arith; to = omega arith; at = λ m h g. absurd (omega arith) }
 
 -- two rows with the same partner, operation and variables have the same columns
 columns : (t : List ℕ) (j k a b : ℕ) (vs : List ℕ) → Exchange a b vs k t → Exchange a b vs j t → (m : ℕ) → 1 ≤ m → m < 8 → get_or t (j * 13 + m) 0 ≡ get_or t (k * 13 + m) 0
@@ -85,41 +76,60 @@ columns t j k a b vs x y m h g =
         subst (λ (z : ℕ). get_or t (j * 13 + z) 0 ≡ get_or t (k * 13 + z) 0) e
         (ap (λ (z : ℕ). get_or t z 0) u ∙ (y.variables (m - 4) l ∙ (sym (x.variables (m - 4) l) ∙ sym (ap (λ (z : ℕ). get_or t z 0) v))))
 
-module _ {t : List ℕ} {j k i : ℕ} (c : Equal t j k i) where
-  pub equal-again : i < 8 → get_or t (j * 13 + i) 0 ≡ get_or t (k * 13 + i) 0 → Equal t j k (i + 1)
-  equal-again h e =
-      record {
-        from = omega arith;
-        to = omega arith;
-        at = λ m g l. elim (ℕ_discrete m i) [ yes z ↦ rw z e | no z ↦ c.at m g (omega (arith, z)) ];
-      }
+-- the columns of a row that say what it names
+abbrev thing : List ℕ → (k : ℕ) → List ℕ
+thing t k = take (k * 13 + 8 - (k * 13 + 1)) (drop (k * 13 + 1) t)
 
-  pub equal-differs : i < 8 → (get_or t (j * 13 + i) 0 ≡ get_or t (k * 13 + i) 0 → ⊥) → SameThing t j k false
-  unfolding is_thing
-  equal-differs h f = record {
-    is = λ a b c' d vs ws x l y m.
-        decide (eqb a c' && (eqb b d && alike vs ws))
-        (λ e. absurd (both (eqb a c') _ e (λ p q. both (eqb b d) _ q (λ u v.
-        f (columns t j k a b vs x
-        (subst (λ (z : ℕ). Exchange z b vs j t) (sym (eqb-true a c' p)) (subst (λ (z : ℕ). Exchange c' z vs j t) (sym (eqb-true b d u)) (subst (λ (z : List ℕ). Exchange c' d z j t) (sym (alike-true vs ws v)) y)))
-        i c.from h)))))
-        (λ e. sym e);
-  }
+column : (t : List ℕ) (k m : ℕ) → m < 7 → get_or (thing t k) m 0 ≡ get_or t (k * 13 + (m + 1)) 0
+column t k m h =
+    let e : k * 13 + 1 + m ≡ k * 13 + (m + 1) = omega arith in
+    get_or-take (k * 13 + 8 - (k * 13 + 1)) (drop (k * 13 + 1) t) m 0 (omega arith) ∙ (get_or-drop (k * 13 + 1) t m 0 ∙ ap (λ (z : ℕ). get_or t z 0) e)
 
-  pub equal-done : 8 ≤ i → SameThing t j k true
+thing-long : (t : List ℕ) (k : ℕ) → length t ≡ 11584 → k < 256 → length (thing t k) ≡ 7
+thing-long t k l h = omega (arith, length-take (k * 13 + 8 - (k * 13 + 1)) (drop (k * 13 + 1) t), length-drop (k * 13 + 1) t)
+
+module _ (t : List ℕ) (j k : ℕ) (l : length t ≡ 11584) (g : j < 256) (h : k < 256) where
+  same-columns : ((m : ℕ) → 1 ≤ m → m < 8 → get_or t (j * 13 + m) 0 ≡ get_or t (k * 13 + m) 0) → thing t j ≡ thing t k
+  same-columns f =
+      alike-true (thing t j) (thing t k)
+      (alike_same (thing t j) (thing t k) (thing-long t j l g ∙ sym (thing-long t k l h))
+      (λ i z. let y : i < 7 = omega (arith, thing-long t j l g) in column t j i y ∙ (f (i + 1) (omega arith) (omega arith) ∙ sym (column t k i y))))
+
+  equal-thing : thing t j ≡ thing t k → SameThing t j k true
   unfolding is_thing
-  equal-done h = record {
-    is = λ a b c' d vs ws x l y m.
-        let p : a ≡ c' = sym x.partner ∙ (sym (c.at 1 (omega arith) (omega arith)) ∙ y.partner) in
-        let q : b ≡ d = sym x.operation ∙ (sym (c.at 2 (omega arith) (omega arith)) ∙ y.operation) in
-        let n : length vs ≡ length ws = sym x.count ∙ (sym (c.at 3 (omega arith) (omega arith)) ∙ y.count) in
+  equal-thing e = record {
+    is = λ a b c' d vs ws x n y m.
+        let c = at in
+        let p : a ≡ c' = sym x.partner ∙ (sym (c 1 (omega arith) (omega arith)) ∙ y.partner) in
+        let q : b ≡ d = sym x.operation ∙ (sym (c 2 (omega arith) (omega arith)) ∙ y.operation) in
+        let n : length vs ≡ length ws = sym x.count ∙ (sym (c 3 (omega arith) (omega arith)) ∙ y.count) in
         let s : alike vs ws ≡ true =
         alike_same vs ws n (λ z g.
         let u : k * 13 + 4 + z ≡ k * 13 + (4 + z) = omega arith in
         let v : j * 13 + 4 + z ≡ j * 13 + (4 + z) = omega arith in
-        sym (x.variables z (omega arith)) ∙ (ap (λ (w : ℕ). get_or t w 0) u ∙ (sym (c.at (4 + z) (omega arith) (omega arith)) ∙ (sym (ap (λ (w : ℕ). get_or t w 0) v) ∙ y.variables z (omega arith))))) in
+        sym (x.variables z (omega arith)) ∙ (ap (λ (w : ℕ). get_or t w 0) u ∙ (sym (c (4 + z) (omega arith) (omega arith)) ∙ (sym (ap (λ (w : ℕ). get_or t w 0) v) ∙ y.variables z (omega arith))))) in
         rw (eq-eqb a c' p, eq-eqb b d q, s);
   }
+    where
+      at : (m : ℕ) → 1 ≤ m → m < 8 → get_or t (j * 13 + m) 0 ≡ get_or t (k * 13 + m) 0
+      at m f z =
+          let i : m - 1 + 1 ≡ m = omega arith in
+          rw i at (sym (column t j (m - 1) (omega arith)) ∙ (ap (λ (r : List ℕ). get_or r (m - 1) 0) e ∙ column t k (m - 1) (omega arith)))
+
+  other-thing : (thing t j ≡ thing t k → ⊥) → SameThing t j k false
+  unfolding is_thing
+  other-thing f = record {
+    is = λ a b c' d vs ws x n y m.
+        decide (eqb a c' && (eqb b d && alike vs ws))
+        (λ e. absurd (both (eqb a c') _ e (λ p q. both (eqb b d) _ q (λ u v.
+        f (same-columns (columns t j k a b vs x
+        (subst (λ (z : ℕ). Exchange z b vs j t) (sym (eqb-true a c' p)) (subst (λ (z : ℕ). Exchange c' z vs j t) (sym (eqb-true b d u)) (subst (λ (z : List ℕ). Exchange c' d z j t) (sym (alike-true vs ws v)) y)))))))))
+        (λ e. sym e);
+  }
+
+  pub thing-is : (r : Bool) → r ≡ pointwise eqb (thing t j) (thing t k) → SameThing t j k r
+  thing-is true e = equal-thing ((bytes_decides (thing t j) (thing t k)).0 (sym e))
+  thing-is false e = other-thing (λ z. false≢true (e ∙ (bytes_decides (thing t j) (thing t k)).1 z))
 
 -- `is_second`
 seen-none : (t rows : List ℕ) (k : ℕ) → ((j : ℕ) → j < length rows → SameThing t (get_or rows j 0) k false) → SeenRow t rows k false

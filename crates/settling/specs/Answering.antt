@@ -1,9 +1,9 @@
 -- Glue: the code's answers on what is open, by what the definitions say. Assumes nothing: these are definitions, and nothing here has to be believed.
-use Rattle.std.specs.Prelude.{ℕ, zero, suc, ◌+◌, ◌*◌, ◌≤◌, ◌<◌, Bool, true, false, cond, ◌&&◌, List, [], ◌∷◌, ◌≡◌, ltb, leb, length, get_or, Option, Some, None}
+use Rattle.std.specs.Prelude.{ℕ, ◌+◌, ◌*◌, ◌≤◌, ◌<◌, Bool, true, false, cond, ◌&&◌, List, [], ◌∷◌, ◌≡◌, ltb, leb, length, get_or, Option, Some, None}
 use Rattle.plan.specs.Tree.{From, from_partner, partner_from, Plan}
 use Rattle.order.specs.declared.Order.{Order}
 use Rattle.order.specs.Answering.{Spelled}
-use Rattle.order.specs.Awaited.{Doing, takes, Ready}
+use Rattle.order.specs.Awaited.{takes, Ready}
 use Rattle.order.specs.Judging.{is_thing, Verdict, clear, clash, conflict, rank, weight}
 use Rattle.order.specs.Lists.{some}
 use Rattle.fit.specs.Answering.{Exchange, open_pick}

@@ -12,12 +12,8 @@ fn same_thing(table: &Table, j: usize, k: usize) -> bool
     requires { (j < 256) × (k < 256) }
     ensures { SameThing table.now j k result }
 {
-    for i in PARTNER..VARIABLE {
-        if table[j * WIDTH + i] != table[k * WIDTH + i] {
-            return false;
-        }
-    }
-    true
+    table[j * WIDTH + PARTNER..j * WIDTH + VARIABLE]
+        == table[k * WIDTH + PARTNER..k * WIDTH + VARIABLE]
 }
 
 // Whether one of the open rows names what row k names.

@@ -1,8 +1,6 @@
 -- `acting::acting::step_in` meet their contracts. Assumes nothing.
-use native.Mathlib.Omega.{arith}
 use Rattle.std.proofs.Common.{◌∙◌}
 use Rattle.acting.proofs.CombineReturns.{step-itself, step-within, step-nowhere}
-use Prim.Native.Nat.{◌-◌}
 use Rattle.acting.proofs.acting.+step_in.Goals as goal
 use Rattle.acting.proofs.acting.+step_in.Goals.{then-child-e, else-child-e}
 

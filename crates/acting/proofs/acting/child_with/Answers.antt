@@ -1,6 +1,5 @@
 -- `acting::acting::child_with` meets its contract. Assumes nothing.
 use Rattle.acting.proofs.ChildReturns.{seeing-starts, seeing-done, seeing-found, seeing-again}
-use Prim.Native.Nat.{◌-◌}
 use Rattle.acting.proofs.acting.child_with.Goals as goal
 
 ruleset cases = (seeing-starts, seeing-done, seeing-found, seeing-again)
