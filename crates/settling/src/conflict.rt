@@ -55,6 +55,7 @@ fn open_at(table: &Table, marks: &[u8; 256], reach: u32, k: usize) -> bool
 pub fn first_conflict(table: &Table, activities: usize, marks: &[u8; 256]) -> Option<usize>
     ensures { Clashes table.now activities marks.now result }
 {
+    // Stays: (a) `opened` has its length beside it: nothing is allocated.
     let rows = activities.min(256);
     let mut opened = [0; 256];
     let mut n = 0;
