@@ -2,20 +2,21 @@
 use mathlib.Core.Path.{◌≡◌, refl, sym, ap, subst, ◌∙◌}
 use mathlib.Core.Bool.{Bool, true, false, cond, not, ◌&&◌, false≢true, and-false}
 use mathlib.Core.List.{List, [], ◌∷◌}
+use mathlib.Core.Logic.{◌⊎◌, inl, inr}
 use Prim.Native.Nat.{ℕ, zero, suc, ◌+◌, ◌<◌, ◌≤◌}
 use native.Mathlib.Omega.{arith}
 use borrow.Author.Tests.{eq-eqb, ne_eqb, lt-ltb, le-ltb, ltb-true}
 use lib.Dec.{eqb, ltb}
 use lib.ListN.{length}
-use Rattle.plan.specs.Tree.{to_partner, to_held, from_partner, from_asking, Own, empty, send, receive, set as setting, raise, leave, choose, repeat, sequence, flow, pick, scope, arm, kind, is_scope, has_undo, numbers_of, general_part, undo_part, is_pick, Act, act, Acts, none, more, size, sizes}
+use Rattle.plan.specs.Tree.{to_partner, to_held, from_partner, from_asking, Own, empty, send, receive, set as setting, raise, leave, choose, repeat, sequence, flow, pick, scope, arm, kind, is_scope, has_undo, numbers_of, general_part, undo_part, is_pick, Act, act, Acts, more, size, sizes}
 use Rattle.order.specs.declared.Order.{Order}
 use Rattle.order.specs.declared.Spot.{Spot}
 use Rattle.order.specs.declared.Way.{Way}
 use Rattle.order.specs.declared.Way.TheVariants.{Running, Over, Raising, Leaving, Undone, UndoRaising}
 use Rattle.order.specs.declared.Went.{Went}
-use Rattle.order.specs.Acting.{finishes, raises, again, is_part, joins, goes_on, in_scope, combines, Actor, its_own, in_place, replaces, performs, itself, arms, step_in, step_among}
+use Rattle.order.specs.Acting.{finishes, raises, again, is_part, joins, goes_on, in_scope, combines, Actor, in_place, replaces, performs, itself, arms, step_in, step_among}
 use Rattle.order.specs.Answering.{KindOf, scope_kind, went, outcome, is_over, of_undo, Made, scope_act, SpotAt, UndoRow, Makes, runs_of, finishes_of, StepsAt, Among, ChildWith, Arms, Follows, JoinsAt, Through, InScope, has_parts, GoesOn, Combines, raises_of, actor_of, Performs, PartOf, StepsIn}
-use Rattle.order.specs.Begin.{part, part_at, begin_after}
+use Rattle.order.specs.Begin.{part_at, begin_after}
 use Rattle.order.specs.Event.{Event}
 use Rattle.order.specs.Expression.{conflicting_receive}
 use Rattle.order.specs.Lists.{only}
@@ -28,39 +29,6 @@ use Rattle.order.proofs.Owns.{of-kind}
 use Rattle.order.proofs.PartReturns.{spot-parts, spot-undo}
 use Rattle.order.proofs.Standing.{size-pos, stands-end, stands-inside, row-kind, scope-kind, own-scope, first-at, scope-line, numbered-undo, if-parts}
 use Rattle.order.proofs.MemoryReturns.{closings-are}
-
--- `has_parts`
-pub parts_low : (n : ℕ) → n < 6 → false ≡ has_parts n
-parts_low n h = rw (lt-ltb n 6 h)
-
-pub parts-high : (n : ℕ) → 6 ≤ n → ltb n 11 ≡ has_parts n
-parts-high n h = rw (le-ltb n 6 h)
-
--- `of_undo`
-module _ {w : Way} where
-  pub undo-running : w ≡ Running → false ≡ of_undo w
-  unfolding of_undo
-  undo-running e = rw e
-
-  pub undo-over : w ≡ Over → false ≡ of_undo w
-  unfolding of_undo
-  undo-over e = rw e
-
-  pub undo-raising : {x : ℕ} → w ≡ Raising x → false ≡ of_undo w
-  unfolding of_undo
-  undo-raising e = rw e
-
-  pub undo-leaving : w ≡ Leaving → false ≡ of_undo w
-  unfolding of_undo
-  undo-leaving e = rw e
-
-  pub undo-undone : w ≡ Undone → true ≡ of_undo w
-  unfolding of_undo
-  undo-undone e = rw e
-
-  pub undo-undo_raising : {x : ℕ} → w ≡ UndoRaising x → true ≡ of_undo w
-  unfolding of_undo
-  undo-undo_raising e = rw e
 
 -- `goes_through`
 through-is : (v : Bool) (k : ℕ) (w : Way) (o : Order)
@@ -434,24 +402,29 @@ unfolding Stands size
 kind-there {t} {k} own l {n} a s = sym (a.is (omega (arith, stands-inside (act own l) k t s)) ∙ s.first.row.kind)
 
 module _ {t : List ℕ} {q k : ℕ} {o : Order} where
-  pub replaced-receive : {n : ℕ} → KindOf t k n → n ≡ 2 → {r : Went} → r ≡ raises_of conflicting_receive k o → Performs t in_place q k o r
+  replaced-receive : {n : ℕ} → KindOf t k n → n ≡ 2 → {r : Went} → r ≡ raises_of conflicting_receive k o → Performs t in_place q k o r
   unfolding replaces
   replaced-receive a e y = record { is = λ own l d s g. y ∙ sym (ap went (in_place_lem own l q k o true (rw (kind-there own l a s ∙ e)))) }
 
-  pub replaced-asking : {n : ℕ} → KindOf t k n → n ≡ 18 → {r : Went} → r ≡ raises_of conflicting_receive k o → Performs t in_place q k o r
+  replaced-asking : {n : ℕ} → KindOf t k n → n ≡ 18 → {r : Went} → r ≡ raises_of conflicting_receive k o → Performs t in_place q k o r
   unfolding replaces
   replaced-asking a e y = record { is = λ own l d s g. y ∙ sym (ap went (in_place_lem own l q k o true (rw (kind-there own l a s ∙ e)))) }
 
-  pub replaced-arm : {n : ℕ} → KindOf t k n → n ≡ 255 → {r : Went} → r ≡ raises_of conflicting_receive k o → Performs t in_place q k o r
+  replaced-arm : {n : ℕ} → KindOf t k n → n ≡ 255 → {r : Went} → r ≡ raises_of conflicting_receive k o → Performs t in_place q k o r
   unfolding replaces
   replaced-arm a e y = record { is = λ own l d s g. y ∙ sym (ap went (in_place_lem own l q k o true (rw (kind-there own l a s ∙ e)))) }
 
-  pub replaced-other : {n : ℕ} → KindOf t k n → (n ≡ 2 → ⊥) → (n ≡ 18 → ⊥) → (n ≡ 255 → ⊥) → {r : Went} → StepsAt t q k o r → Performs t in_place q k o r
+  pub replaced-one : {n : ℕ} → KindOf t k n → (n ≡ 2) ⊎ ((n ≡ 18) ⊎ (n ≡ 255)) → {r : Went} → r ≡ raises_of conflicting_receive k o → Performs t in_place q k o r
+  replaced-one a (inl e) y = replaced-receive a e y
+  replaced-one a (inr (inl e)) y = replaced-asking a e y
+  replaced-one a (inr (inr e)) y = replaced-arm a e y
+
+  pub replaced-other : {n : ℕ} → KindOf t k n → ((n ≡ 2) ⊎ ((n ≡ 18) ⊎ (n ≡ 255)) → ⊥) → {r : Went} → StepsAt t q k o r → Performs t in_place q k o r
   unfolding replaces
-  replaced-other {n} a e f d y =
+  replaced-other {n} a e y =
       record {
         is = λ own l i s g.
-            y.is own l i s g ∙ sym (ap went (in_place_lem own l q k o false (rw (unlike own l s 2 e, unlike own l s 18 f, unlike own l s 255 d))));
+            y.is own l i s g ∙ sym (ap went (in_place_lem own l q k o false (rw (unlike own l s 2 (λ z. e (inl z)), unlike own l s 18 (λ z. e (inr (inl z))), unlike own l s 255 (λ z. e (inr (inr z)))))));
       }
     where
       unlike : (own : Own) (l : Acts) → Stands (act own l) k t → (m : ℕ) → (n ≡ m → ⊥) → eqb (kind own) m ≡ false

@@ -1,46 +1,22 @@
 -- The returns of the functions that judge what is open after a step. Assumes nothing.
-use Prim.Native.Nat.{ℕ, ◌<◌, ◌≤◌}
+use Prim.Native.Nat.{ℕ, ◌<◌}
 use native.Mathlib.Omega.{arith}
-use mathlib.Core.Path.{◌≡◌, refl, sym, ap, subst, ◌∙◌}
+use mathlib.Core.Path.{◌≡◌, refl, sym, ap, ◌∙◌}
 use mathlib.Core.Bool.{Bool, true, false}
 use mathlib.Core.List.{List, []}
 use lib.Dec.{ltb}
 use borrow.Author.Tests.{lt-ltb, ltb-true}
+use Rattle.std.specs.Prelude.{Option, Some}
 use Rattle.plan.specs.Tree.{Plan}
-use Rattle.order.specs.declared.End.{End}
-use Rattle.order.specs.declared.End.TheVariants.{None, Well, Handled, Failed, Left}
 use Rattle.order.specs.declared.Next.{Next}
 use Rattle.order.specs.declared.Order.{Order}
-use Rattle.order.specs.Acting.{its_own, in_place, Moved, acted}
+use Rattle.order.specs.Acting.{its_own, in_place, acted}
 use Rattle.order.specs.Answering.{next_of, moved_as, goes_on_after, Spelled, ActsOrder, Settles, StepsOrder}
-use Rattle.order.specs.Judging.{Verdict, clash, conflict, judged, spare, settled, step_order}
-use Rattle.order.specs.Room.{room_plan}
-use Rattle.order.specs.State.{closings}
+use Rattle.order.specs.Judging.{clash, conflict, spare, settled, step_order}
 use Rattle.settling.specs.Answering.{Clashes, weight_in, Lowers}
-use Rattle.settling.proofs.Formed.{Shaped, shaped}
+use Rattle.settling.proofs.Formed.{shaped}
 use Rattle.settling.proofs.Settled.{any-log, settled-ended, goes_none, clash-is, clash-room, settled-clear, raise-falls, settled-clash}
 use Rattle.settling.proofs.Weighing.{weight-spare}
-
--- `goes_on`
-pub goes-is : (e : End) → e ≡ None → true ≡ goes_on_after e
-unfolding goes_on_after
-goes-is e d = rw d
-
-pub ends-well : (e : End) → e ≡ Well → false ≡ goes_on_after e
-unfolding goes_on_after
-ends-well e d = rw d
-
-pub ends-handled : (e : End) → e ≡ Handled → false ≡ goes_on_after e
-unfolding goes_on_after
-ends-handled e d = rw d
-
-pub ends-failed : (e : End) → e ≡ Failed → false ≡ goes_on_after e
-unfolding goes_on_after
-ends-failed e d = rw d
-
-pub ends-left : (e : End) → e ≡ Left → false ≡ goes_on_after e
-unfolding goes_on_after
-ends-left e d = rw d
 
 -- the loop: what is left to judge comes to what there was to judge
 pub record Settling (t : List ℕ) (n : ℕ) (first m : Next) : Type 0 where
@@ -54,18 +30,18 @@ module _ {t : List ℕ} {n : ℕ} {first m : Next} (w : Settling t n first m) wh
   pub settling-ended : {b : Bool} → b ≡ goes_on_after m.end → b ≡ false → Settles t n first m
   settling-ended q d' = record { is = λ p s. sym (w.is p s ∙ settled-ended p m (sym q ∙ d')) }
 
-  module _ {b : Bool} (q : b ≡ goes_on_after m.end) (u : b ≡ true) {k : ℕ} (c : Clashes t n m.order.marks k) where
+  module _ {b : Bool} (q : b ≡ goes_on_after m.end) (u : b ≡ true) {f : Option ℕ} (c : Clashes t n m.order.marks f) where
     g : goes_on_after m.end ≡ true
     g = sym q ∙ u
 
     -- nothing conflicts
-    pub settling-clear : 256 ≤ k → Settles t n first m
-    settling-clear h = record { is = λ p s. sym (w.is p s ∙ settled-clear p (shaped p s.within) m (goes_none m.end g) k (c.is p s m.order refl) h) }
+    pub settling-clear : f ≡ Option.None → Settles t n first m
+    settling-clear h = record { is = λ p s. sym (w.is p s ∙ settled-clear p (shaped p s.within) m (goes_none m.end g) (rw h at (c.is p s m.order refl))) }
 
     -- k does, and the raise in its place leaves r
-    module _ (h : k < 256) {r : Next} (a : ActsOrder t n in_place k m.order r) where
+    module _ {k : ℕ} (h : f ≡ Some k) {r : Next} (a : ActsOrder t n in_place k m.order r) where
       clashes : (p : Plan) → Spelled p n t → conflict p m.order ≡ clash k
-      clashes p s = clash-is p (shaped p s.within) m.order k (c.is p s m.order refl) h
+      clashes p s = clash-is p (shaped p s.within) m.order k (rw h at (c.is p s m.order refl))
 
       left : (p : Plan) → Spelled p n t → r ≡ next_of (acted in_place p k m.order)
       left p s = a.is p s (clash-room p (shaped p s.within) m.order k (clashes p s))

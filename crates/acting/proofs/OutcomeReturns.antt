@@ -2,11 +2,13 @@
 use mathlib.Core.Path.{◌≡◌, sym, ap, ◌∙◌}
 use mathlib.Core.Bool.{Bool, true, false, ◌||◌}
 use mathlib.Core.List.{List}
+use mathlib.Core.Logic.{◌⊎◌, inl, inr}
 use Prim.Native.Nat.{ℕ}
 use borrow.Author.Tests.{eq-eqb, ne_eqb}
 use lib.Dec.{eqb}
 use Rattle.order.specs.declared.Order.{Order}
 use Rattle.order.specs.declared.Spot.{Spot}
+use Rattle.order.specs.declared.Way.{Way}
 use Rattle.order.specs.declared.Way.TheVariants.{Running, Over, Raising, Leaving, Undone, UndoRaising}
 use Rattle.order.specs.declared.Went.{Went}
 use Rattle.order.specs.Answering.{runs_of, went, outcome, name_of, scope_of, Faulting, Clears, Stops, Turns, Undoes, Forgets, ends_of, Leads, Makes, PartOver}
@@ -133,6 +135,9 @@ module _ (t : List ℕ) (z : Spot) (o : Order) {s : ℕ} (a : s ≡ state_of (na
   part-absorbed n h y = record { is = λ x k. y ∙ sym (ap went (no _ _ _ (no-state 6 h))) }
 
 -- `from_body`, `from_fault`, `from_undo`: by how what ran stands
+as-way : (r : Went) {w : Way} → r.way ≡ w → r ≡ record { way = w; order = r.order }
+as-way r e = rw (← e)
+
 module _ (t : List ℕ) (z : Spot) (r : Went) where
   pub from-running : r.way ≡ Running → {p : Went} → Leads t z looks_again r.order p → Makes t z from_body r p
   unfolding from_body
@@ -146,9 +151,9 @@ module _ (t : List ℕ) (z : Spot) (r : Went) where
   unfolding from_body
   from-raising e y = record { is = λ m k. rw e (y.is m k) }
 
-  pub from-leaving : r.way ≡ Leaving → Makes t z from_body r (record { way = Leaving; order = r.order })
+  pub from-leaving : r.way ≡ Leaving → Makes t z from_body r r
   unfolding from_body
-  from-leaving e = record { is = λ m k. rw (e, e) }
+  from-leaving e = record { is = λ m k. as-way r e ∙ rw (e, e) }
 
   pub from-undone : r.way ≡ Undone → {p : Went} → Leads t z undo_over r.order p → Makes t z from_body r p
   unfolding from_body
@@ -158,7 +163,7 @@ module _ (t : List ℕ) (z : Spot) (r : Went) where
   unfolding from_body
   from-undo_raising e y = record { is = λ m k. rw e (y.is m k) }
 
-  pub fault-running : r.way ≡ Running → {p : Went} → p ≡ runs_of r.order → Makes t z from_fault r p
+  fault-running : r.way ≡ Running → {p : Went} → p ≡ runs_of r.order → Makes t z from_fault r p
   unfolding from_fault
   fault-running e y = record { is = λ m k. rw (e, e) y }
 
@@ -170,23 +175,24 @@ module _ (t : List ℕ) (z : Spot) (r : Went) where
   unfolding from_fault
   fault-raising e y = record { is = λ m k. rw e (y.is m k) }
 
-  pub fault-leaving : r.way ≡ Leaving → Makes t z from_fault r (record { way = Leaving; order = r.order })
+  pub fault-leaving : r.way ≡ Leaving → Makes t z from_fault r r
   unfolding from_fault
-  fault-leaving e = record { is = λ m k. rw (e, e) }
+  fault-leaving e = record { is = λ m k. as-way r e ∙ rw (e, e) }
 
-  pub fault-undone : r.way ≡ Undone → {p : Went} → p ≡ runs_of r.order → Makes t z from_fault r p
+  fault-undone : r.way ≡ Undone → {p : Went} → p ≡ runs_of r.order → Makes t z from_fault r p
   unfolding from_fault
   fault-undone e y = record { is = λ m k. rw e y }
 
-  pub fault-undo_raising : {x : ℕ} → r.way ≡ UndoRaising x → {p : Went} → p ≡ runs_of r.order → Makes t z from_fault r p
+  fault-undo_raising : {x : ℕ} → r.way ≡ UndoRaising x → {p : Went} → p ≡ runs_of r.order → Makes t z from_fault r p
   unfolding from_fault
   fault-undo_raising e y = record { is = λ m k. rw e y }
 
-module _ (r : Went) where
-  pub up-running : r.way ≡ Running → ◌≡◌ {A = Went} (record { way = Running; order = r.order }) (went (from_undo (outcome r)))
-  unfolding from_undo
-  up-running e = rw e
+  pub fault-still : (r.way ≡ Running) ⊎ ((r.way ≡ Undone) ⊎ ((x : ℕ) × (r.way ≡ UndoRaising x))) → {p : Went} → p ≡ runs_of r.order → Makes t z from_fault r p
+  fault-still (inl e) y = fault-running e y
+  fault-still (inr (inl e)) y = fault-undone e y
+  fault-still (inr (inr x)) y = fault-undo_raising x.1 y
 
+module _ (r : Went) where
   pub up-over : r.way ≡ Over → ◌≡◌ {A = Went} (record { way = Undone; order = r.order }) (went (from_undo (outcome r)))
   unfolding from_undo
   up-over e = rw e
@@ -195,14 +201,9 @@ module _ (r : Went) where
   unfolding from_undo
   up-raising e = rw e
 
-  pub up-leaving : r.way ≡ Leaving → ◌≡◌ {A = Went} (record { way = Leaving; order = r.order }) (went (from_undo (outcome r)))
+  pub up-still : (r.way ≡ Running) ⊎ ((r.way ≡ Leaving) ⊎ ((r.way ≡ Undone) ⊎ ((x : ℕ) × (r.way ≡ UndoRaising x)))) → r ≡ went (from_undo (outcome r))
   unfolding from_undo
-  up-leaving e = rw e
-
-  pub up-undone : r.way ≡ Undone → ◌≡◌ {A = Went} (record { way = Undone; order = r.order }) (went (from_undo (outcome r)))
-  unfolding from_undo
-  up-undone e = rw e
-
-  pub up-undo_raising : {x : ℕ} → r.way ≡ UndoRaising x → ◌≡◌ {A = Went} (record { way = UndoRaising x; order = r.order }) (went (from_undo (outcome r)))
-  unfolding from_undo
-  up-undo_raising e = rw e
+  up-still (inl e) = as-way r e ∙ rw e
+  up-still (inr (inl e)) = as-way r e ∙ rw e
+  up-still (inr (inr (inl e))) = as-way r e ∙ rw e
+  up-still (inr (inr (inr x))) = as-way r x.1 ∙ rw x.1

@@ -2,13 +2,13 @@
 use mathlib.Core.Path.{◌≡◌, refl, sym, ap, ◌∙◌}
 use mathlib.Core.Bool.{Bool, true, false, cond}
 use mathlib.Core.List.{List, []}
-use Prim.Native.Nat.{ℕ, ◌+◌, ◌-◌, ◌<◌, ◌≤◌}
+use mathlib.Core.Logic.{◌⊎◌, inl, inr}
+use Prim.Native.Nat.{ℕ, ◌+◌, ◌-◌, ◌<◌, ◌≤◌, min}
 use native.Mathlib.Omega.{arith}
 use borrow.Author.Tests.{eq-eqb, ne_eqb, lt-ltb, le-ltb, ltb-false}
 use lib.Dec.{eqb, ltb}
 use Rattle.plan.specs.Tree.{Act, act, Acts, none, more, Plan, size, sizes, count}
 use Rattle.order.specs.declared.Closing.{Closing}
-use Rattle.order.specs.declared.End.{End}
 use Rattle.order.specs.declared.End.TheVariants.{None, Well, Handled, Failed, Left}
 use Rattle.order.specs.declared.Next.{Next}
 use Rattle.order.specs.declared.Order.{Order}
@@ -24,7 +24,7 @@ use Rattle.order.specs.Room.{has_room, room_in, room_among, room_plan}
 use Rattle.order.specs.Scope.{Scope, Outcome, root_of, from_body, from_fault}
 use Rattle.order.specs.Stands as standing
 use Rattle.order.specs.Stands.{PlanStands}
-use Rattle.order.specs.State.{closings, no_order}
+use Rattle.order.specs.State.{closings}
 use Rattle.order.proofs.Deciding.{yes, no}
 use Rattle.acting.proofs.CombineReturns.{body_same, fault-same}
 use Rattle.order.proofs.PlanStands.{plan-stands}
@@ -52,13 +52,18 @@ module _ (r : Went) where
   unfolding moved_to end_of fault_of
   moved_on e h = rw (e, ne_eqb _ _ h)
 
-  pub moved-undone : r.way ≡ Undone → ◌≡◌ {A = Next} (record { end = None; fault = 0; order = r.order }) (next_of (moved_to (outcome r) (end_of (outcome r))))
+  moved-undone : r.way ≡ Undone → ◌≡◌ {A = Next} (record { end = None; fault = 0; order = r.order }) (next_of (moved_to (outcome r) (end_of (outcome r))))
   unfolding moved_to end_of fault_of
   moved-undone e = rw e
 
-  pub moved-undo_raising : {x : ℕ} → r.way ≡ UndoRaising x → ◌≡◌ {A = Next} (record { end = None; fault = 0; order = r.order }) (next_of (moved_to (outcome r) (end_of (outcome r))))
+  moved-undo_raising : {x : ℕ} → r.way ≡ UndoRaising x → ◌≡◌ {A = Next} (record { end = None; fault = 0; order = r.order }) (next_of (moved_to (outcome r) (end_of (outcome r))))
   unfolding moved_to end_of fault_of
   moved-undo_raising e = rw e
+
+  pub moved-still : (r.way ≡ Undone) ⊎ ((x : ℕ) × (r.way ≡ UndoRaising x))
+      → ◌≡◌ {A = Next} (record { end = None; fault = 0; order = r.order }) (next_of (moved_to (outcome r) (end_of (outcome r))))
+  moved-still (inl e) = moved-undone e
+  moved-still (inr x) = moved-undo_raising x.1
 
 -- the end and the order do not hang on what happened
 moved_same : (R : Outcome) → next_of (moved_to R (end_of R)) ≡ next_of (moved_to (outcome (went R)) (end_of (outcome (went R))))
@@ -82,13 +87,13 @@ moved_same R = go R.result R.order R.log
     go (UndoRaising x) o g = refl
 
 -- `root_spot`
-pub root_is : (t : List ℕ) (activities : ℕ) {e : ℕ} → e ≤ 256 → (activities ≤ 256 → e ≡ activities) → {n f : ℕ} → standing.End t 0 n → f < 256 → (n < 256 → f ≡ n)
+pub root_is : (t : List ℕ) (activities : ℕ) {e : ℕ} → e ≡ min activities 256 → {n f : ℕ} → standing.End t 0 n → f < 256 → (n < 256 → f ≡ n)
     → RootSpot t activities (record { root = true; first = 0; end = e; body = 0; parts = f; count = 0 })
 unfolding standing.Stands part part_at count
-root_is t activities {e} h i {n} {f} z u j = record {
+root_is t activities {e} h {n} {f} z u j = record {
   low = u;
   held = λ p s. record {
-    end = h;
+    end = omega arith;
     body = s.body;
     next = omega (arith, fault-at p s);
     parts = record { first = rw (fault-at p s) s.fault; rest = tt };
@@ -98,7 +103,7 @@ root_is t activities {e} h i {n} {f} z u j = record {
   };
   same = λ p s.
       let m : activities ≤ 256 = omega (arith, s.many, stands-inside p.fault (size p.body) t s.fault) in
-      let c : e - 0 ≡ size p.body + size p.fault = omega (arith, s.many, i m) in
+      let c : e - 0 ≡ size p.body + size p.fault = omega (arith, s.many, m, h) in
       rw (fault-at p s, c);
 }
   where
@@ -177,7 +182,3 @@ module _ (t : List ℕ) (activities : ℕ) (v : Actor) (x : ℕ) (o : Order) {z 
         = e ∙ (sym (fault-same (root_of q) R) ∙ sym (ap went (no (ltb x (size q.body)) (from_body (root_of q) _) (from_fault (root_of q) R) (le-ltb _ _ m)))) in
         (rw f at c) ∙ sym (moved_same (step_root v q x o));
   }
-
--- `ended`
-pub ended_is : (e : End) (x : ℕ) {o : Order} → o ≡ no_order → ◌≡◌ {A = Next} (record { end = e; fault = x; order = o }) (ended_of e x)
-ended_is e x i = rw i

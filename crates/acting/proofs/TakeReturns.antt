@@ -1,7 +1,8 @@
 -- The returns of the functions by which an order takes a message. Assumes nothing.
 use mathlib.Core.Path.{◌≡◌, refl, sym, ap, ◌∙◌}
-use mathlib.Core.Bool.{true, not, ◌||◌, ◌&&◌}
+use mathlib.Core.Bool.{true, not}
 use mathlib.Core.List.{List, ◌∷◌}
+use mathlib.Core.Logic.{◌⊎◌, inl, inr}
 use Prim.Native.Nat.{ℕ, zero, suc, ◌+◌, ◌*◌, ◌<◌, ◌≤◌}
 use native.Mathlib.Numerals.{add-one}
 use native.Mathlib.Omega.{arith}
@@ -9,10 +10,9 @@ use borrow.Author.Tests.{le-ltb, ltb-true}
 use lib.Dec.{eqb, ltb}
 use lib.ListN.{length, get_or, drop, drop_of_length-le}
 use lib.Seq.{drop-cons, drop-drop, get_or-drop}
-use Rattle.plan.specs.Found.{among}
 use Rattle.plan.specs.Spells.{variables_of}
 use Rattle.plan.specs.Table.{row_of}
-use Rattle.plan.specs.Tree.{From, from_partner, from_asking, Own, empty, send, receive, set as setting, raise, leave, choose, repeat, sequence, flow, pick, scope, arm, kind, Act, act, Acts, none, more, size, sizes, count}
+use Rattle.plan.specs.Tree.{from_partner, from_asking, Own, empty, send, receive, set as setting, raise, leave, choose, repeat, sequence, flow, pick, scope, arm, kind, Act, act, Acts, none, more, size, sizes, count}
 use Rattle.plan.specs.Within.{own_within, exchange_within}
 use Rattle.plan.proofs.Accepts.{both}
 use Rattle.order.specs.declared.Order.{Order}
@@ -58,10 +58,6 @@ module _ {t : List ℕ} {k : ℕ} {xs : List ℕ} {o₀ : Order} {i : ℕ} {o : 
         w.is vs m
         ∙ (ap (λ (l : List ℕ). bind_all l (drop i xs) o) c ∙ bind-next (get_or vs i 0) (drop (i + 1) vs) (drop i xs) (drop (i + 1) xs) (get_or xs i 0) o p d f y);
   }
-
--- `bind_asking`: the reply partner after the tuple
-pub asking-binds : {t : List ℕ} {k : ℕ} {xs : List ℕ} {o p r : Order} → BindsRow t k xs o p → Binds (get_or t (k * 13 + 8) 0) (get_or xs 4 0) p r → BindsAsking t k xs o r
-asking-binds b c = record { is = λ vs m h. c.is h ∙ rw (b.is vs m) }
 
 -- the variables of a receive and of an arm, and the one for the reply partner
 pub record AskingRow (t : List ℕ) (k v : ℕ) (vs : List ℕ) : Type 0 where
@@ -122,7 +118,7 @@ module _ (t : List ℕ) (n x : ℕ) (xs : List ℕ) (o : Order) where
         go : (a : Act) → Stands a x t → r ≡ bind_act a xs o
         go (act own l) s = f own l s
 
-    pub takes-receive : kd ≡ 2 → {r : Order} → BindsRow t x xs o r → TakesOrder t n x xs o r
+    takes-receive : kd ≡ 2 → {r : Order} → BindsRow t x xs o r → TakesOrder t n x xs o r
     unfolding bind_own
     takes-receive h {r} b = by_row (λ own l s.
         of-kind 2 (λ w. Stands (act w l) x t → r ≡ bind_own w xs o) (λ p y vs s. b.is vs (receive-names t x p y vs l s)) own (sym (row-kind q own l s) ∙ h) s)
@@ -136,10 +132,14 @@ module _ (t : List ℕ) (n x : ℕ) (xs : List ℕ) (o : Order) where
         rw z.variable at (b.is vs z.names (rw z.variable z.small)))
         own (sym (row-kind q own l s) ∙ h) s)
 
-    pub takes-arm : kd ≡ 255 → {r : Order} → BindsRow t x xs o r → TakesOrder t n x xs o r
+    takes-arm : kd ≡ 255 → {r : Order} → BindsRow t x xs o r → TakesOrder t n x xs o r
     unfolding bind_own
     takes-arm h {r} b = by_row (λ own l s.
         of-kind 255 (λ w. Stands (act w l) x t → r ≡ bind_own w xs o) (λ p y vs s. b.is vs (arm-names t x p y vs l s)) own (sym (row-kind q own l s) ∙ h) s)
+
+    pub takes-row : (kd ≡ 2) ⊎ (kd ≡ 255) → {r : Order} → BindsRow t x xs o r → TakesOrder t n x xs o r
+    takes-row (inl e) b = takes-receive e b
+    takes-row (inr e) b = takes-arm e b
 
     no-take : (kd ≡ 2 → ⊥) → (kd ≡ 18 → ⊥) → (kd ≡ 255 → ⊥) → (own : Own) → kind own ≡ kd → o ≡ bind_own own xs o
     unfolding bind_own kind
@@ -159,5 +159,5 @@ module _ (t : List ℕ) (n x : ℕ) (xs : List ℕ) (o : Order) where
     no-take h g i (scope ns u) e = refl
     no-take h g i (arm p y vs) e = absurd (i (sym e))
 
-    pub takes_none : (kd ≡ 2 → ⊥) → (kd ≡ 18 → ⊥) → (kd ≡ 255 → ⊥) → TakesOrder t n x xs o o
-    takes_none h g i = by_row (λ own l s. no-take h g i own (sym (row-kind q own l s)))
+    pub takes_none : ((kd ≡ 2) ⊎ (kd ≡ 255) → ⊥) → (kd ≡ 18 → ⊥) → TakesOrder t n x xs o o
+    takes_none h g = by_row (λ own l s. no-take (λ e. h (inl e)) g (λ e. h (inr e)) own (sym (row-kind q own l s)))

@@ -7,7 +7,7 @@ use super::outcomes::{from_body, from_fault, from_undo};
 use activity::{again, finishes, itself, raises};
 use beginning::begin_in_turn;
 use order::kind::is_scope;
-use order::marks::{begun_in, is_over, mark_at, marked, quiet, runs};
+use order::marks::{begun_in, mark_at, marked, quiet, runs};
 use order::parts::undo_row;
 use order::rows::{end_of, kind_of, spot_at};
 use order::{Entered, Order, Way, Went, fault, mark};
@@ -19,6 +19,7 @@ fn child_with(table: &Table, c: usize, e: usize, t: usize) -> usize
     requires { e ≤ 256 }
     ensures { ChildWith table.now c e t result }
 {
+    // Stays: (d) the next place is told by the row itself, so no range has these places.
     let mut j = c;
     while j < e {
         let n = end_of(table, j);
@@ -34,14 +35,11 @@ fn child_with(table: &Table, c: usize, e: usize, t: usize) -> usize
 fn arms(table: &Table, k: usize, e: usize, child: usize, t: usize, order: Order) -> Order
     ensures { Arms table.now k e child t order result }
 {
-    if kind_of(table, k) == kind::PICK {
-        if child < e {
-            if child == t {
-                return marked(k, mark::INSIDE, order);
-            }
-        }
+    if kind_of(table, k) == kind::PICK && child < e && child == t {
+        marked(k, mark::INSIDE, order)
+    } else {
+        order
     }
-    order
 }
 
 // What follows the part in row `child` begins, in turn, as far as row e.
@@ -49,23 +47,22 @@ fn begin_after(table: &Table, e: usize, child: usize, marks: [u8; 256]) -> Enter
     ensures { BeginsAfter table.now e child marks result }
 {
     if child < e {
-        return begin_in_turn(table, end_of(table, child), e, marks);
+        begin_in_turn(table, end_of(table, child), e, marks)
+    } else {
+        Entered { marks, over: true }
     }
-    Entered { marks, over: true }
 }
 
 // Sequence k goes on after its part in row `child`.
 fn follows(table: &Table, k: usize, e: usize, child: usize, order: Order) -> Went
     ensures { Follows table.now k e child order result }
 {
-    let m = order.marks;
-    let r = begun_in(order, begin_after(table, e, child, m));
-    let w = r.way;
-    if is_over(w) {
-        let p = r.order;
-        return finishes(k, p);
+    let r = begun_in(order, begin_after(table, e, child, order.marks));
+    if r.way.is_over() {
+        finishes(k, r.order)
+    } else {
+        r
     }
-    r
 }
 
 // A flow is over when all in it is.
@@ -73,39 +70,26 @@ fn joins(k: usize, e: usize, order: Order) -> Went
     requires { (k < 256) × (e ≤ 256) }
     ensures { JoinsAt k e order result }
 {
-    let m = order.marks;
-    if quiet(k + 1, e, m) {
-        return finishes(k, order);
+    if quiet(k + 1, e, order.marks) {
+        finishes(k, order)
+    } else {
+        runs(order)
     }
-    runs(order)
 }
 
 // Whether this is what became of an undo part.
+#[tactic(auto, unfolding(order::specs::Answering::of_undo))]
 fn of_undo(way: Way) -> bool
     ensures { result ≡ of_undo way }
 {
-    match way {
-        Way::Running => false,
-        Way::Over => false,
-        Way::Raising { number: _ } => false,
-        Way::Leaving => false,
-        Way::Undone => true,
-        Way::UndoRaising { number: _ } => true,
-    }
+    matches!(way, Way::Undone | Way::UndoRaising { .. })
 }
 
 // Whether what became of an order in the body of scope k goes through it: of an undo part that it handed on, to the scope further around that runs it.
 fn goes_through(table: &Table, k: usize, r: Went) -> bool
     ensures { Through table.now k r result }
 {
-    if kind_of(table, k) == kind::OPEN_SCOPE {
-        let o = r.order;
-        if mark_at(k, o) == mark::IDLE {
-            let w = r.way;
-            return of_undo(w);
-        }
-    }
-    false
+    kind_of(table, k) == kind::OPEN_SCOPE && mark_at(k, r.order) == mark::IDLE && of_undo(r.way)
 }
 
 // What scope k makes of a step t within it.
@@ -115,14 +99,15 @@ fn in_scope(table: &Table, k: usize, t: usize, r: Went) -> Went
     let s = spot_at(table, k);
     if t < s.parts {
         if goes_through(table, k, r) {
-            return r;
+            r
+        } else {
+            from_body(table, s, r)
         }
-        return from_body(table, s, r);
+    } else if t < undo_row(table, s) {
+        from_fault(table, s, r)
+    } else {
+        from_undo(r)
     }
-    if t < undo_row(table, s) {
-        return from_fault(table, s, r);
-    }
-    from_undo(r)
 }
 
 // What activity k makes of its part that is over.
@@ -130,40 +115,44 @@ fn goes_on(table: &Table, k: usize, e: usize, child: usize, order: Order) -> Wen
     requires { (k < 256) × (e ≤ 256) }
     ensures { GoesOn table.now k e child order result }
 {
-    let kind = kind_of(table, k);
     let mark = mark_at(k, order);
-    if kind == kind::SEQUENCE {
-        if mark == mark::ACTIVE {
-            return follows(table, k, e, child, order);
+    match kind_of(table, k) {
+        kind::SEQUENCE => {
+            if mark == mark::ACTIVE {
+                follows(table, k, e, child, order)
+            } else {
+                runs(order)
+            }
         }
-        return runs(order);
-    }
-    if kind == kind::FLOW {
-        if mark == mark::ACTIVE {
-            return joins(k, e, order);
+        kind::FLOW => {
+            if mark == mark::ACTIVE {
+                joins(k, e, order)
+            } else {
+                runs(order)
+            }
         }
-        return runs(order);
-    }
-    if kind == kind::REPEAT {
-        if mark == mark::INSIDE {
-            return again(k, order);
+        kind::REPEAT => {
+            if mark == mark::INSIDE {
+                again(k, order)
+            } else {
+                runs(order)
+            }
         }
-        return runs(order);
+        _ => {
+            if mark == mark::INSIDE {
+                finishes(k, order)
+            } else {
+                runs(order)
+            }
+        }
     }
-    if mark == mark::INSIDE {
-        return finishes(k, order);
-    }
-    runs(order)
 }
 
 // Whether an activity of this kind goes on where its part is over: a choose, a repeat, a sequence, a flow or a pick.
 fn has_parts(kind: u32) -> bool
     ensures { result ≡ has_parts kind }
 {
-    if kind < kind::CHOOSE {
-        return false;
-    }
-    kind < kind::SCOPE
+    kind::CHOOSE <= kind && kind < kind::SCOPE
 }
 
 // What activity k makes of a step t within it.
@@ -173,33 +162,24 @@ fn combines(table: &Table, k: usize, e: usize, child: usize, t: usize, r: Went) 
 {
     let kind = kind_of(table, k);
     if is_scope(kind) {
-        return in_scope(table, k, t, r);
+        in_scope(table, k, t, r)
+    } else if has_parts(kind) && r.way.is_over() {
+        goes_on(table, k, e, child, r.order)
+    } else {
+        r
     }
-    if has_parts(kind) {
-        let w = r.way;
-        if is_over(w) {
-            let o = r.order;
-            return goes_on(table, k, e, child, o);
-        }
-    }
-    r
 }
 
 // A raise in place of activity k, where that is a receive or an arm.
 fn replaced(table: &Table, q: usize, k: usize, order: Order) -> Went
     ensures { Performs table.now in_place q k order result }
 {
-    let kind = kind_of(table, k);
-    if kind == kind::RECEIVE {
-        return raises(fault::CONFLICTING_RECEIVE, k, order);
+    match kind_of(table, k) {
+        kind::RECEIVE | kind::ASKING_RECEIVE | kind::ARM => {
+            raises(fault::CONFLICTING_RECEIVE, k, order)
+        }
+        _ => itself(table, q, k, order),
     }
-    if kind == kind::ASKING_RECEIVE {
-        return raises(fault::CONFLICTING_RECEIVE, k, order);
-    }
-    if kind == kind::ARM {
-        return raises(fault::CONFLICTING_RECEIVE, k, order);
-    }
-    itself(table, q, k, order)
 }
 
 // Activity k acts, or a raise in its place.
@@ -207,9 +187,10 @@ fn performs(table: &Table, q: usize, k: usize, raise: bool, order: Order) -> Wen
     ensures { Performs table.now (actor_of raise) q k order result }
 {
     if raise {
-        return replaced(table, q, k, order);
+        replaced(table, q, k, order)
+    } else {
+        itself(table, q, k, order)
     }
-    itself(table, q, k, order)
 }
 
 // The part that what stands in row `child` within activity k stands in, where k stands in the part q: of what stands directly in a scope each is a part by
@@ -218,9 +199,10 @@ fn part_of(table: &Table, q: usize, k: usize, child: usize) -> usize
     ensures { PartOf table.now q k child result }
 {
     if is_scope(kind_of(table, k)) {
-        return child;
+        child
+    } else {
+        q
     }
-    q
 }
 
 // Step t in activity k, which stands in the part whose first activity has the number q, or a raise in its place.
@@ -241,10 +223,10 @@ pub(crate) fn step_in(
     let e = end_of(table, k);
     let child = child_with(table, k + 1, e, t);
     let o = arms(table, k, e, child, t, order);
-    if child < e {
-        let p = part_of(table, q, k, child);
-        let r = step_in(table, p, child, t, raise, o);
-        return combines(table, k, e, child, t, r);
-    }
-    combines(table, k, e, child, t, runs(o))
+    let r = if child < e {
+        step_in(table, part_of(table, q, k, child), child, t, raise, o)
+    } else {
+        runs(o)
+    };
+    combines(table, k, e, child, t, r)
 }

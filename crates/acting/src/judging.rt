@@ -9,16 +9,11 @@ use settling::conflict::first_conflict;
 use settling::ranks::is_lower;
 
 // Whether an order goes on.
+#[tactic(auto, unfolding(order::specs::Answering::goes_on_after))]
 fn goes_on(end: End) -> bool
     ensures { result ≡ goes_on_after end }
 {
-    match end {
-        End::None => true,
-        End::Well => false,
-        End::Handled => false,
-        End::Failed => false,
-        End::Left => false,
-    }
+    matches!(end, End::None)
 }
 
 // A raise in place of the higher-numbered of two that are open for one thing, again and again. Each leaves an order lower than before, of any plan's
@@ -27,24 +22,17 @@ pub(crate) fn settled(table: &Table, activities: usize, next: Next) -> Next
     ensures { Settles table.now activities next result }
 {
     let mut m = next;
-    loop {
-        let end = m.end;
-        if goes_on(end) {
-            let o = m.order;
-            let marks = o.marks;
-            let k = first_conflict(table, activities, &marks);
-            if 256 <= k {
-                return m;
-            }
-            let n = acted(table, activities, o, k, true);
-            let p = n.order;
-            let new_marks = p.marks;
-            if is_lower(table, activities, o.root, &marks, p.root, &new_marks) {
-                m = n;
-                continue;
-            }
+    while goes_on(m.end) {
+        let o = m.order;
+        let Some(k) = first_conflict(table, activities, &o.marks) else {
+            return m;
+        };
+        let n = acted(table, activities, o, k, true);
+        let p = n.order;
+        if !is_lower(table, activities, o.root, &o.marks, p.root, &p.marks) {
             return n;
         }
-        return m;
+        m = n;
     }
+    m
 }

@@ -42,21 +42,12 @@ pub fn taken_order(
 ) -> Order
     ensures { TakesOrder table.now activities t values order result }
 {
-    if activities <= t {
+    if activities <= t || 256 <= t {
         return order;
     }
-    if 256 <= t {
-        return order;
+    match kind_of(table, t) {
+        kind::RECEIVE | kind::ARM => taking::bind_row(table, t, values, order),
+        kind::ASKING_RECEIVE => taking::bind_asking(table, t, values, order),
+        _ => order,
     }
-    let kind = kind_of(table, t);
-    if kind == kind::RECEIVE {
-        return taking::bind_row(table, t, values, order);
-    }
-    if kind == kind::ASKING_RECEIVE {
-        return taking::bind_asking(table, t, values, order);
-    }
-    if kind == kind::ARM {
-        return taking::bind_row(table, t, values, order);
-    }
-    order
 }

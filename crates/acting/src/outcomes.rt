@@ -16,8 +16,7 @@ fn faults(table: &Table, number: u8, spot: Spot, order: Order) -> Went
     ensures { Leads table.now spot (faults_of number) order result }
 {
     let o = faulting(table, spot, number, order);
-    let p = stop(table, spot.body, o);
-    turns(table, true, spot, p)
+    turns(table, true, spot, stop(table, spot.body, o))
 }
 
 // The scope ends with a fault of that number, which goes on to the scope around it.
@@ -25,12 +24,10 @@ fn breaks(table: &Table, number: u8, spot: Spot, order: Order) -> Went
     ensures { Leads table.now spot (breaks_of number) order result }
 {
     let o = forgetting(spot.body, marking(spot, mark::IDLE, order));
-    let m = o.marks;
-    let n = cleared(spot.first, spot.end, m);
-    let p = with_marks(n, o);
+    let marks = cleared(spot.first, spot.end, o.marks);
     Went {
         way: Way::Raising { number },
-        order: p,
+        order: with_marks(marks, o),
     }
 }
 
@@ -39,12 +36,12 @@ fn looks_again(table: &Table, spot: Spot, order: Order) -> Went
     ensures { Leads table.now spot looks_again order result }
 {
     if state_of(spot, order) == mark::FAULTY {
-        return turns(table, true, spot, order);
+        turns(table, true, spot, order)
+    } else if mark_of(spot, order) == mark::HALTED {
+        turns(table, false, spot, order)
+    } else {
+        runs(order)
     }
-    if mark_of(spot, order) == mark::HALTED {
-        return turns(table, false, spot, order);
-    }
-    runs(order)
 }
 
 // The body is over.
@@ -52,10 +49,10 @@ fn body_over(table: &Table, spot: Spot, order: Order) -> Went
     ensures { Leads table.now spot body_over order result }
 {
     if mark_of(spot, order) == mark::ACTIVE {
-        let o = marking(spot, mark::DONE, order);
-        return runs(o);
+        runs(marking(spot, mark::DONE, order))
+    } else {
+        looks_again(table, spot, order)
     }
-    looks_again(table, spot, order)
 }
 
 // A fault of that number came out of the body.
@@ -63,9 +60,10 @@ fn body_raised(table: &Table, number: u8, spot: Spot, order: Order) -> Went
     ensures { Leads table.now spot (body_raised number) order result }
 {
     if is_open(mark_of(spot, order)) {
-        return faults(table, number, spot, order);
+        faults(table, number, spot, order)
+    } else {
+        looks_again(table, spot, order)
     }
-    looks_again(table, spot, order)
 }
 
 // An undo part that the scope is running is over.
@@ -73,43 +71,37 @@ fn undo_over(table: &Table, spot: Spot, order: Order) -> Went
     ensures { Leads table.now spot undo_over order result }
 {
     if state_of(spot, order) == mark::UNDOING {
-        return undoes(table, true, spot, order);
+        undoes(table, true, spot, order)
+    } else if mark_of(spot, order) == mark::WITHDRAWING {
+        undoes(table, false, spot, order)
+    } else {
+        runs(order)
     }
-    if mark_of(spot, order) == mark::WITHDRAWING {
-        return undoes(table, false, spot, order);
-    }
-    runs(order)
 }
 
 // A fault of that number came out of an undo part that the scope is running.
 fn undo_raised(table: &Table, number: u8, spot: Spot, order: Order) -> Went
     ensures { Leads table.now spot (undo_raised number) order result }
 {
-    if state_of(spot, order) == mark::UNDOING {
-        return breaks(table, number, spot, order);
+    if state_of(spot, order) == mark::UNDOING || mark_of(spot, order) == mark::WITHDRAWING {
+        breaks(table, number, spot, order)
+    } else {
+        runs(order)
     }
-    if mark_of(spot, order) == mark::WITHDRAWING {
-        return breaks(table, number, spot, order);
-    }
-    runs(order)
 }
 
 // What a scope makes of a step in its body.
 pub(crate) fn from_body(table: &Table, spot: Spot, r: Went) -> Went
     ensures { Makes table.now spot from_body r result }
 {
-    let w = r.way;
-    let o = r.order;
-    match w {
-        Way::Running => looks_again(table, spot, o),
-        Way::Over => body_over(table, spot, o),
-        Way::Raising { number } => body_raised(table, number, spot, o),
-        Way::Leaving => Went {
-            way: Way::Leaving,
-            order: o,
-        },
-        Way::Undone => undo_over(table, spot, o),
-        Way::UndoRaising { number } => undo_raised(table, number, spot, o),
+    let order = r.order;
+    match r.way {
+        Way::Running => looks_again(table, spot, order),
+        Way::Over => body_over(table, spot, order),
+        Way::Raising { number } => body_raised(table, number, spot, order),
+        Way::Leaving => r,
+        Way::Undone => undo_over(table, spot, order),
+        Way::UndoRaising { number } => undo_raised(table, number, spot, order),
     }
 }
 
@@ -118,9 +110,10 @@ fn part_over(spot: Spot, order: Order) -> Went
     ensures { PartOver spot order result }
 {
     if state_of(spot, order) == mark::HANDLING {
-        return ends(spot, order);
+        ends(spot, order)
+    } else {
+        runs(order)
     }
-    runs(order)
 }
 
 // A fault of that number came out of the fault part that the scope is running.
@@ -128,27 +121,22 @@ fn part_raised(table: &Table, number: u8, spot: Spot, order: Order) -> Went
     ensures { Leads table.now spot (part_raised number) order result }
 {
     if state_of(spot, order) == mark::HANDLING {
-        return breaks(table, number, spot, order);
+        breaks(table, number, spot, order)
+    } else {
+        runs(order)
     }
-    runs(order)
 }
 
 // What a scope makes of a step in one of its fault parts.
 pub(crate) fn from_fault(table: &Table, spot: Spot, r: Went) -> Went
     ensures { Makes table.now spot from_fault r result }
 {
-    let w = r.way;
-    let o = r.order;
-    match w {
-        Way::Running => runs(o),
-        Way::Over => part_over(spot, o),
-        Way::Raising { number } => part_raised(table, number, spot, o),
-        Way::Leaving => Went {
-            way: Way::Leaving,
-            order: o,
-        },
-        Way::Undone => runs(o),
-        Way::UndoRaising { number: _ } => runs(o),
+    let order = r.order;
+    match r.way {
+        Way::Over => part_over(spot, order),
+        Way::Raising { number } => part_raised(table, number, spot, order),
+        Way::Leaving => r,
+        Way::Running | Way::Undone | Way::UndoRaising { .. } => runs(order),
     }
 }
 
@@ -156,32 +144,15 @@ pub(crate) fn from_fault(table: &Table, spot: Spot, r: Went) -> Went
 pub(crate) fn from_undo(r: Went) -> Went
     ensures { result ≡ went (from_undo (outcome r)) }
 {
-    let w = r.way;
-    let o = r.order;
-    match w {
-        Way::Running => Went {
-            way: Way::Running,
-            order: o,
-        },
+    match r.way {
         Way::Over => Went {
             way: Way::Undone,
-            order: o,
+            order: r.order,
         },
         Way::Raising { number } => Went {
             way: Way::UndoRaising { number },
-            order: o,
+            order: r.order,
         },
-        Way::Leaving => Went {
-            way: Way::Leaving,
-            order: o,
-        },
-        Way::Undone => Went {
-            way: Way::Undone,
-            order: o,
-        },
-        Way::UndoRaising { number } => Went {
-            way: Way::UndoRaising { number },
-            order: o,
-        },
+        Way::Running | Way::Leaving | Way::Undone | Way::UndoRaising { .. } => r,
     }
 }

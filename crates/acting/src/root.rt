@@ -14,11 +14,10 @@ use plan::table::Table;
 fn ended(end: End, fault: u8) -> Next
     ensures { result ≡ ended_of end fault }
 {
-    let o = no_order();
     Next {
         end,
         fault,
-        order: o,
+        order: no_order(),
     }
 }
 
@@ -26,61 +25,40 @@ fn ended(end: End, fault: u8) -> Next
 pub(crate) fn moved_to(r: Went) -> Next
     ensures { result ≡ next_of (moved_to (outcome r) (end_of (outcome r))) }
 {
-    let w = r.way;
-    let o = r.order;
-    match w {
+    let order = r.order;
+    match r.way {
         Way::Running => {
-            if o.root == mark::DONE {
+            if order.root == mark::DONE {
                 return ended(End::Well, 0);
             }
             Next {
                 end: End::None,
                 fault: 0,
-                order: o,
+                order,
             }
         }
-        Way::Over => ended(End::Handled, o.cause),
+        Way::Over => ended(End::Handled, order.cause),
         Way::Raising { number } => ended(End::Failed, number),
         Way::Leaving => ended(End::Left, 0),
-        Way::Undone => Next {
+        Way::Undone | Way::UndoRaising { .. } => Next {
             end: End::None,
             fault: 0,
-            order: o,
-        },
-        Way::UndoRaising { number: _ } => Next {
-            end: End::None,
-            fault: 0,
-            order: o,
+            order,
         },
     }
-}
-
-// A count of rows: at most all 256.
-fn capped(x: usize) -> usize
-    ensures { (result ≤ 256) × (x ≤ 256 → result ≡ x) }
-{
-    if x <= 256 { x } else { 256 }
-}
-
-// A row of the table, 0 where x is none.
-fn some_row(x: usize) -> usize
-    ensures { (result < 256) × (x < 256 → result ≡ x) }
-{
-    if x < 256 { x } else { 0 }
 }
 
 // The root as a scope.
 pub(crate) fn root_spot(table: &Table, activities: usize) -> Spot
     ensures { RootSpot table.now activities result }
 {
-    let end = capped(activities);
-    let parts = some_row(end_of(table, 0));
+    let end = end_of(table, 0);
     Spot {
         root: true,
         first: 0,
-        end,
+        end: activities.min(256),
         body: 0,
-        parts,
+        parts: if end < 256 { end } else { 0 },
         count: 0,
     }
 }
@@ -93,10 +71,9 @@ pub fn acted(table: &Table, activities: usize, order: Order, t: usize, raise: bo
     let fault = s.parts;
     if t < fault {
         let r = step_in(table, 0, 0, t, raise, order);
-        let p = from_body(table, s, r);
-        return moved_to(p);
+        moved_to(from_body(table, s, r))
+    } else {
+        let r = step_in(table, fault, fault, t, raise, order);
+        moved_to(from_fault(table, s, r))
     }
-    let r = step_in(table, fault, fault, t, raise, order);
-    let p = from_fault(table, s, r);
-    moved_to(p)
 }

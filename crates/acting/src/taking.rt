@@ -12,12 +12,9 @@ pub(crate) fn bind_row(table: &Table, k: usize, values: [u32; 5], order: Order) 
     requires { k < 256 }
     ensures { BindsRow table.now k values order result }
 {
-    let n = count_of(table, k);
     let mut o = order;
-    let mut i: usize = 0;
-    while i < n {
+    for i in 0..count_of(table, k) {
         o = binding(variable_of(table, k, i), values[i], o);
-        i += 1;
     }
     o
 }

@@ -37,31 +37,6 @@ use Rattle.order.proofs.MemoryReturns.{closings-are}
 use Rattle.order.proofs.Deciding.{yes, no, goes_on, stays}
 use Rattle.order.proofs.Standing.{size-pos, stands-end, stands-inside, row-kind, scope-line, numbered-undo, if-two, if-one}
 
--- `finishes`, `raises`, `leaves`, `again`
-module _ (k : ℕ) (o : Order) where
-  pub finish-is : {p : Order} → p ≡ marked k 0 o → ◌≡◌ {A = Went} (record { way = Over; order = p }) (finishes_of k o)
-  finish-is e = rw e
-
-  pub raise-is : (x : ℕ) {p : Order} → p ≡ marked k 0 o → ◌≡◌ {A = Went} (record { way = Raising x; order = p }) (raises_of x k o)
-  raise-is x e = rw e
-
-  pub leave-is : {p : Order} → p ≡ marked k 0 o → ◌≡◌ {A = Went} (record { way = Leaving; order = p }) (leaves_of k o)
-  leave-is e = rw e
-
-  pub again-is : {p : Order} → p ≡ marked k 1 o → {r : Went} → r ≡ runs_of p → r ≡ runs_of (marked k 1 o)
-  again-is e g = g ∙ rw e
-
--- `binding`
-pub binds-far : (v x : ℕ) (o : Order) {r : Order} → 16 ≤ v → Binds v x o r
-binds-far v x o h = record { is = λ l. absurd (omega arith) }
-
-pub binds-is : (v x : ℕ) (o : Order) → Binds v x o (binding v x o)
-binds-is v x o = record { is = λ l. refl }
-
--- `worth_at`
-pub worth-is : {t : List ℕ} {k : ℕ} {o : Order} {n : ℕ} {w : Result ℕ Fault} → n ≡ get_or t (k * 13 + 9) 0 → Evaluates t o n 8 w → WorthAt t k o w
-worth-is q x = record { is = λ long e m vars h f s l. x.is long e vars f (rw (q, h) s) l }
-
 -- `enters`
 module _ (t : List ℕ) (k c : ℕ) (o : Order) {o₁ : Order} (e : o₁ ≡ marked k 2 o) {b : Entered} (x : Begins t c o₁.marks b)
     {r : Went} (y : r ≡ begun_of o₁ b) {v : Bool} (q : v ≡ is_over r.way) where

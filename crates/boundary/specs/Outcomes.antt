@@ -1,8 +1,9 @@
 -- Meaning: every outcome that the contract of a public call allows, and that any two of them are equal. Assumes nothing: these are definitions.
 -- A record has the clauses of a call's `ensures`, over what it is given and over all that it gives and leaves: what it answers, and what stands afterwards
 -- in each thing lent to it.
-use Rattle.std.specs.Prelude.{ℕ, ◌+◌, ◌≡◌, List, map, length}
-use Rattle.plan.specs.declared.Answer.{Answer}
+use Rattle.std.specs.Prelude.{ℕ, ◌+◌, ◌≡◌, List, map, length, Result}
+use Rattle.plan.specs.declared.Accepted.{Accepted}
+use Rattle.plan.specs.declared.Refusal.{Refusal}
 use Rattle.plan.specs.Answers.{answer_of, table_for, flags_for}
 use Rattle.plan.specs.Read.{read_plan}
 use Rattle.show.specs.Shown.{shown_part, shown_start, shown_refusal}
@@ -31,7 +32,7 @@ abbrev pub Fixed : {Given Outcome : Type 0} → (Given → Outcome → Type 0) �
 Fixed {Given} {Outcome} Allowed = (x : Given) (a b : Outcome) → Allowed x a → Allowed x b → a ≡ b
 
 -- `plan::accept`: the answer, the table and the flags
-pub record Accept (s : List ℕ) (o : Answer × List ℕ × List ℕ) : Type 0 where
+pub record Accept (s : List ℕ) (o : Result Accepted Refusal × List ℕ × List ℕ) : Type 0 where
   pub is : o.0 ≡ answer_of (read_plan s)
   pub rows : o.1 ≡ table_for (read_plan s)
   pub flags : o.2 ≡ flags_for (read_plan s)

@@ -18,7 +18,7 @@ use show::Shown;
 fn pair_of(number: u32, place: usize) -> u64
     ensures { result ≡ pair_of number place }
 {
-    (number as u64) * 4294967296 + (place as u64) % 4294967296
+    u64::from(number) * 4294967296 + (place as u64) % 4294967296
 }
 
 fn triple_of(refusal: u32, start: usize, length: usize) -> u64
@@ -29,6 +29,7 @@ fn triple_of(refusal: u32, start: usize, length: usize) -> u64
         + (length as u64) % 16777216
 }
 
+#[tactic(auto, unfolding(crate::specs::Packed::accept_number))]
 fn number_of(a: Answer) -> u64
     ensures { result ≡ accept_number a }
 {
@@ -44,8 +45,7 @@ pub fn moonhalyard_accept(s: &[u8]) -> u64
 {
     let mut table = [0u32; LENGTH];
     let mut correlation = [0u8; 16];
-    let a = plan::accept_over(s, &mut table, &mut correlation);
-    number_of(a)
+    number_of(plan::accept_over(s, &mut table, &mut correlation))
 }
 
 // The refusal's number times 2^48, where activity k starts times 2^24, and how many bytes spell it; both 0 where it is refused.
@@ -60,15 +60,12 @@ pub fn moonhalyard_show(s: &[u8], k: u32) -> u64
 }
 
 // How much is offered, as one number.
+#[tactic(auto, unfolding(crate::specs::Engine::offers_number))]
 fn offers_number(x: Offered) -> u64
     ensures { result ≡ engine.offers_number x }
 {
     let n = (x.refusal as u64) % 16777216 * 1099511627776 + (x.many as u64) % 4294967296;
-    let held = x.held;
-    if held {
-        return n + 4294967296;
-    }
-    n
+    if x.held { n + 4294967296 } else { n }
 }
 
 // Loads the plan that some bytes spell. The refusal's number times 2^32, and its place; 18 times 2^32 where `state` has not 12,748 bytes.
@@ -77,11 +74,11 @@ pub fn moonhalyard_load(plan: &[u8], state: &mut [u8]) -> u64
     ensures bytes { state.new ≡ engine.load_bytes plan.now state.old }
 {
     let r = machine::load(plan);
-    let none = machine::no_tally();
-    if store::pack(r.state, none, state) {
-        return pair_of(r.refusal, r.place);
+    if store::pack(r.state, machine::no_tally(), state) {
+        pair_of(r.refusal, r.place)
+    } else {
+        pair_of(18, 0)
     }
-    pair_of(18, 0)
 }
 
 // Posts a message, with the partner to reply to. The refusal or 0.

@@ -1,3 +1,4 @@
 pub mod Renewing
 pub mod Upgrading
 pub mod Laws
+pub mod Sets

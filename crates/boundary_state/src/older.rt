@@ -8,61 +8,55 @@ use plan::kind;
 use plan::table::{END, LENGTH, Table, WIDTH};
 
 // Whether there are `size` bytes, with this mark in front.
+#[tactic(auto, using(crate::proofs::Sets::is_marked))]
 pub(crate) fn is_marked(old: &[u8], size: usize, mark: usize) -> bool
     ensures { result ≡ marked size mark old.now }
 {
-    if old.len() == size {
-        return store::number_at(old, 0) == mark;
-    }
-    false
+    old.len() == size && store::number_at(old, 0) == mark
 }
 
 // Where the plan ends, which starts at 36.
+#[tactic(auto, using(crate::proofs::Sets::plan_end))]
 fn plan_end(old: &[u8]) -> usize
     ensures { PlanEnds old.now result }
 {
     let n = store::number_at(old, 28);
-    if n <= 4096 {
-        return n + 36;
-    }
-    36
+    if n <= 4096 { n + 36 } else { 36 }
 }
 
 // Whether row j is a scope that row k stands in, where k comes after j.
+#[tactic(auto, using(crate::proofs::Sets::is_around))]
 fn is_around(table: &Table, j: usize, k: u32) -> bool
     requires { j < 256 }
     ensures { result ≡ is_around table.now j k }
 {
-    if table[j * WIDTH] == kind::SCOPE {
-        return k < table[j * WIDTH + END];
-    }
-    false
+    table[j * WIDTH] == kind::SCOPE && k < table[j * WIDTH + END]
 }
 
 // The part that the closing of a scope is remembered for.
+#[tactic(auto, using(crate::proofs::Sets::part_around))]
 fn part_around(table: &Table, scope: u8) -> u8
     ensures { result ≡ part_around table.now scope scope }
 {
     let k = scope as u32;
-    let mut j = scope as usize;
-    while 0 < j {
-        let i = j - 1;
-        if is_around(table, i, k) {
-            return j as u8;
+    for i in (0..scope).rev() {
+        if is_around(table, i as usize, k) {
+            return i + 1;
         }
-        j = i;
     }
     0
 }
 
 // One of the two bytes of a closing.
+#[tactic(auto, using(crate::proofs::Sets::closing_byte))]
 fn closing_byte(table: &Table, scope: u8, half: usize) -> u8
     ensures { result ≡ closing_byte table.now scope half }
 {
     if half == 0 {
-        return scope;
+        scope
+    } else {
+        part_around(table, scope)
     }
-    part_around(table, scope)
 }
 
 // A byte of an order, whose bytes start at `at` in the first version.
@@ -96,14 +90,13 @@ fn byte_of(old: &[u8], table: &Table, i: usize) -> u8
 }
 
 // All of them.
+#[tactic(auto, using(crate::proofs::Sets::fill))]
 fn fill(old: &[u8], table: &Table, state: &mut [u8])
     requires { (length old.now ≡ 11964) × (length state.old ≡ 12476) }
     ensures { state.new ≡ renewed_by old.now table.now }
 {
-    let mut i: usize = 0;
-    while i < 12476 {
+    for i in 0..12476 {
         state[i] = byte_of(old, table, i);
-        i += 1;
     }
 }
 
@@ -121,14 +114,12 @@ fn renew(old: &[u8], state: &mut [u8])
 }
 
 // A byte of an order, whose bytes start at `at` in the second version.
+#[tactic(auto, using(crate::proofs::Sets::cause_byte))]
 fn cause_byte(old: &[u8], at: usize, within: usize) -> u8
     requires { (length old.now ≡ 12476) × (at ≤ 12067) × (within < 410) }
     ensures { result ≡ cause_byte old.now at within }
 {
-    if within < 409 {
-        return old[at + within];
-    }
-    0
+    if within < 409 { old[at + within] } else { 0 }
 }
 
 // A byte of the state of the third version.
@@ -147,26 +138,23 @@ fn byte_with(old: &[u8], i: usize) -> u8
 }
 
 // A state of the second version as one of the third.
+#[tactic(auto, using(crate::proofs::Sets::cause))]
 fn cause(old: &[u8], state: &mut [u8])
     requires { (length old.now ≡ 12476) × (length state.old ≡ 12492) }
     ensures { state.new ≡ with_causes old.now }
 {
-    let mut i: usize = 0;
-    while i < 12492 {
+    for i in 0..12492 {
         state[i] = byte_with(old, i);
-        i += 1;
     }
 }
 
 // A byte of a message, whose bytes start at `at` in the third version.
+#[tactic(auto, using(crate::proofs::Sets::reply_byte))]
 fn reply_byte(old: &[u8], at: usize, within: usize) -> u8
     requires { (length old.now ≡ 12492) × (at ≤ 5904) × (within < 32) }
     ensures { result ≡ reply_byte old.now at within }
 {
-    if within < 28 {
-        return old[at + within];
-    }
-    0
+    if within < 28 { old[at + within] } else { 0 }
 }
 
 // A byte of the state of today.
@@ -188,14 +176,13 @@ fn byte_now(old: &[u8], i: usize) -> u8
 }
 
 // A state of the third version as one of today.
+#[tactic(auto, using(crate::proofs::Sets::reply))]
 pub(crate) fn reply(old: &[u8], state: &mut [u8])
     requires { (length old.now ≡ 12492) × (length state.old ≡ 12748) }
     ensures { state.new ≡ with_replies old.now }
 {
-    let mut i: usize = 0;
-    while i < 12748 {
+    for i in 0..12748 {
         state[i] = byte_now(old, i);
-        i += 1;
     }
 }
 
@@ -224,9 +211,5 @@ pub(crate) fn copy(old: &[u8], state: &mut [u8])
     requires { (length old.now ≡ 12748) × (length state.old ≡ 12748) }
     ensures { state.new ≡ old.now }
 {
-    let mut i: usize = 0;
-    while i < 12748 {
-        state[i] = old[i];
-        i += 1;
-    }
+    state.copy_from_slice(old);
 }

@@ -9,6 +9,8 @@ use borrow.Author.Tests.{lt-ltb, le-ltb, le-leb, lt-leb, ltb-true, leb-true, not
 use lib.Dec.{ltb, leb, eqb}
 use lib.ListN.{length, get_or, take, drop, set, length-append, length-drop, take-append-drop, drop_of_length-le}
 use lib.Seq.{take-suc, take_all, length-take-le, set_at, take_at, drop-cons, drop-length, get_or-append-add, get_or-drop, get_or-take}
+use Rattle.std.proofs.Math.Seq.{paste}
+use Rattle.std.proofs.lemmas.List.Edits.{paste_all}
 use Rattle.plan.specs.Found.{among}
 use Rattle.plan.specs.Tree.{Plan}
 use Rattle.plan.proofs.Accepts.{both}
@@ -40,26 +42,23 @@ module _ {A : Type 0} (l : List A) (k : ℕ) (e : length l ≡ 64) where
       let b = length-drop (k + 1) l in
       length-append (take k l) (drop (k + 1) l) ∙ omega arith
 
-  pub gap-starts : k < 64 → Gap l l k k
-  gap-starts h =
-      let a : length (take k l) ≡ k = length-take-le k l (omega arith) in
+  -- those behind the gap are copied one place down
+  pub gap-copied : k < 64 → {out : List A} → out ≡ paste l k (drop (k + 1) l) (64 - (k + 1)) → Gap l out k 63
+  gap-copied h q =
+      let n : 64 - (k + 1) ≡ length (drop (k + 1) l) = omega (arith, length-drop (k + 1) l) in
+      let z : k + (64 - (k + 1)) ≡ 63 = omega arith in
+      let w = length_without h in
+      let t : take 63 (without k l) ≡ without k l = take_all 63 (without k l) (omega arith) in
       record {
-        is = sym (ap (λ (x : List A). x ++ drop k l) (take_at (take k l) (drop (k + 1) l) k a) ∙ take-append-drop k l);
+        is = q
+            ∙ paste_all l k (drop (k + 1) l) (64 - (k + 1)) n
+            ∙ ap (λ (j : ℕ). take k l ++ (drop (k + 1) l ++ drop j l)) z
+            ∙ sym (append_assoc (take k l) (drop (k + 1) l) (drop 63 l))
+            ∙ ap (λ (y : List A). y ++ drop 63 l) (sym t);
         long = e;
         ahead = omega arith;
         within = omega arith;
       }
-
-  -- what stands behind the gap
-  behind : (i : ℕ) (d : A) → k ≤ i → k < 64 → get_or (without k l) i d ≡ get_or l (i + 1) d
-  behind i d h g =
-      let a : length (take k l) ≡ k = length-take-le k l (omega arith) in
-      let q : i ≡ length (take k l) + (i - k) = omega arith in
-      let z : k + 1 + (i - k) ≡ i + 1 = omega arith in
-      ap (λ (j : ℕ). get_or (without k l) j d) q
-      ∙ get_or-append-add (take k l) (drop (k + 1) l) (i - k) d
-      ∙ get_or-drop (k + 1) l (i - k) d
-      ∙ ap (λ (j : ℕ). get_or l j d) z
 
 module _ {A : Type 0} {l out : List A} {k i : ℕ} (a : Gap l out k i) where
   -- the element at i is another
@@ -70,23 +69,6 @@ module _ {A : Type 0} {l out : List A} {k i : ℕ} (a : Gap l out k i) where
       let n : length (take i (without k l)) ≡ i = length-take-le i (without k l) (omega arith) in
       ap (λ (y : List A). set y i x) (a.is ∙ ap (λ (y : List A). take i (without k l) ++ y) (drop-cons l i d (omega arith)))
       ∙ set_at (take i (without k l)) (get_or l i d) (drop (suc i) l) x i n
-
-  pub gap-moves : (d : A) → i < 63 → Gap l (set out i (get_or l (i + 1) d)) k (i + 1)
-  gap-moves d h =
-      let m = a.long in
-      let w = length_without l k a.long (omega arith) in
-      let v : get_or (without k l) i d ≡ get_or l (i + 1) d = behind l k a.long i d (omega arith) (omega arith) in
-      let t : take (suc i) (without k l) ≡ take i (without k l) ++ (get_or l (i + 1) d ∷ []) =
-      take-suc (without k l) i d (omega arith) ∙ ap (λ (x : A). take i (without k l) ++ (x ∷ [])) v in
-      record {
-        is = gap-set (get_or l (i + 1) d) d (omega arith)
-            ∙ sym (append_assoc (take i (without k l)) (get_or l (i + 1) d ∷ []) (drop (suc i) l))
-            ∙ ap (λ (y : List A). y ++ drop (suc i) l) (sym t)
-            ∙ ap (λ (j : ℕ). take j (without k l) ++ drop j l) (sym (add-one i));
-        long = a.long;
-        ahead = omega arith;
-        within = omega arith;
-      }
 
   pub gap-closed : (x : A) → 63 ≤ i → set out 63 x ≡ take k l ++ (drop (k + 1) l ++ (x ∷ []))
   gap-closed x h =
@@ -151,40 +133,39 @@ every-at f [] i d e h = absurd (omega arith)
 every-at f (m ∷ l) zero d e h = both (f m) (every f l) e (λ a b. a)
 every-at f (m ∷ l) (suc i) d e h = both (f m) (every f l) e (λ a b. every-at f l i d b (omega arith))
 
-module _ (t : List ℕ) (l : List Message) (n : ℕ) {i : ℕ} (a : Seeking t (take n l) n i) where
-  pub seeking-none : n ≤ i → (ps : List ℕ) → Heard t ps → i ≡ foreign ps 0 (take n l)
+module _ {t : List ℕ} {l : List Message} {n i : ℕ} (a : Seeking t l n i) where
+  pub seeking-none : n ≤ i → (ps : List ℕ) → Heard t ps → n ≡ foreign ps 0 l
   unfolding foreign
   seeking-none h ps x =
       let m = a.long in
       let w = a.within in
-      let k : length (take n l) ≤ i = omega arith in
-      let q : drop i (take n l) ≡ [] = drop_of_length-le (take n l) k in
-      sym (a.same ps x ∙ rw q)
+      let k : length l ≤ i = omega arith in
+      let q : drop i l ≡ [] = drop_of_length-le l k in
+      let z : i ≡ n = omega arith in
+      sym (a.same ps x ∙ rw q z)
 
-  pub partner-below : (d : Message) → every message_in_limits (take n l) ≡ true → i < n → (get_or l i d).partner < 64
+  pub partner-below : (d : Message) → every message_in_limits l ≡ true → i < n → (get_or l i d).partner < 64
   unfolding message_in_limits exchanged
   partner-below d e h =
       let m = a.long in
-      let q : message_in_limits (get_or (take n l) i d) ≡ true = every-at message_in_limits (take n l) i d e (omega arith) in
-      let z : message_in_limits (get_or l i d) ≡ true = ap message_in_limits (sym (get_or-take n l i d h)) ∙ q in
+      let z : message_in_limits (get_or l i d) ≡ true = every-at message_in_limits l i d e (omega arith) in
       both (exchanged (get_or l i d).partner (get_or l i d).operation (get_or l i d).count (get_or l i d).reply) _ z (λ a b.
       both (ltb (get_or l i d).partner 64) _ a (λ x y. ltb-true _ _ x))
 
-  module _ (d : Message) {b : Bool} (v : every message_in_limits (take n l) ≡ true) (h : i < n) (e : b ≡ eqb (get_or t (3328 + (get_or l i d).partner) 0) 1) where
-    one_more : (ps : List ℕ) → Heard t ps → foreign ps 0 (take n l) ≡ cond b (foreign ps (i + 1) (drop (i + 1) (take n l))) i
+  module _ (d : Message) {b : Bool} (v : every message_in_limits l ≡ true) (h : i < n) (e : b ≡ eqb (get_or t (3328 + (get_or l i d).partner) 0) 1) where
+    one_more : (ps : List ℕ) → Heard t ps → foreign ps 0 l ≡ cond b (foreign ps (i + 1) (drop (i + 1) l)) i
     unfolding foreign
     one_more ps x =
         let m = a.long in
-        let k : i < length (take n l) = omega arith in
-        let g : get_or (take n l) i d ≡ get_or l i d = get_or-take n l i d h in
+        let k : i < length l = omega arith in
         let y : b ≡ among (get_or l i d).partner ps = e ∙ x.tells (get_or l i d).partner (partner-below d v h) in
-        a.same ps x ∙ rw (drop-cons (take n l) i d k, g, add-one i, sym y)
+        a.same ps x ∙ rw (drop-cons l i d k, add-one i, sym y)
 
-    pub seeking-found : not b ≡ true → (ps : List ℕ) → Heard t ps → i ≡ foreign ps 0 (take n l)
-    seeking-found q ps x = sym (one_more ps x ∙ rw (not-true b q))
+    pub seeking-found : b ≡ false → (ps : List ℕ) → Heard t ps → i ≡ foreign ps 0 l
+    seeking-found q ps x = sym (one_more ps x ∙ rw q)
 
-    pub seeking-on : not b ≡ false → Seeking t (take n l) n (i + 1)
-    seeking-on q = record { long = a.long; within = omega arith; same = λ ps x. one_more ps x ∙ rw (not-false b q) }
+    pub seeking-on : b ≡ true → Seeking t l n (i + 1)
+    seeking-on q = record { long = a.long; within = omega arith; same = λ ps x. one_more ps x ∙ rw q }
 
 -- `collect_by`
 pub limits-letters : (s : State) → in_limits s ≡ true → (s.waiting ≤ 64) × (every message_in_limits (take s.waiting s.messages) ≡ true)

@@ -19,6 +19,8 @@ ghost use Rattle.order.specs.Answering.{is_over};
 // `marks` has the mark of each activity by its number. `bound` is 1 where the variable of that number is bound and 0 where it is not.
 // The first `kept` places of `remembered` are the closings, oldest first, and the places beyond hold 0. `cause` is the number of the fault that the root
 // faulted with, 0 where it has not faulted.
+// Stays: (a) the state is what is saved and given through C, byte for byte: so `bound` is bytes, `root` and `cause` say by 0 that there is none, and `kept` stands beside its
+// fixed places, as nothing is allocated (`no_order`, `remembering` and `is_live` of specs/State.antt).
 #[derive(Clone, Copy)]
 pub struct Order {
     pub root: u8,
@@ -50,6 +52,7 @@ pub enum End {
 
 // How what runs stands after a step in it: it runs on; it is over; a fault came out of it; the order leaves; and of what stands around an undo
 // part that is running, the undo part is over, or a fault came out of it. A fault has its number.
+// Stays: (a) the definitions of specs/Scope.antt, of which the theorems speak, have these six as their `Outcome`.
 #[derive(Clone, Copy)]
 pub enum Way {
     Running,
@@ -78,6 +81,7 @@ pub struct Went {
 }
 
 // The marks after something began, and whether it is over already.
+// Stays: (a) `Begun` of specs/Begin.antt has both: the marks stand whether it is over or not.
 #[derive(Clone, Copy)]
 pub struct Entered {
     pub marks: [u8; 256],
@@ -86,6 +90,7 @@ pub struct Entered {
 
 // A scope by the rows of the table: the root, or the scope with the number `first`. Its numbers are `first` to `end`, its body stands from `body`
 // on, and its fault parts, right after the body, from `parts` on: `count` by number, and then the general one.
+// Stays: (d) `root` beside `first`: the root too has its rows from 0 on, and an Option of a number would lose them.
 #[derive(Clone, Copy)]
 pub struct Spot {
     pub root: bool,
@@ -97,6 +102,7 @@ pub struct Spot {
 }
 
 // An order after a step, how it ended, if it did, and the number of the fault that the root handled, or that went out of the root, where it ended so.
+// Stays: (a) `Moved` of specs/Acting.antt has the number beside the end, and hosts in C are given both.
 #[derive(Clone, Copy)]
 pub struct Next {
     pub end: End,

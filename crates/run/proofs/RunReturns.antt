@@ -94,9 +94,11 @@ module _ {t flags : List ℕ} {n : ℕ} {cs : List ℕ} {b₀ : ℕ} {s₀ : Sta
       ap (λ (k : ℕ). record { taken = k; refusal = r.refusal; state = r.state; tally = r.tally }) z
       ∙ sym (ap (λ (v : calls.Ran). ran_of (after i v)) e) ∙ sym (ap ran_of g.same)
 
-  pub going-empty : length cs ≤ i → ◌≡◌ {A = Ran} (record { taken = i; refusal = 0; state = s; tally = y }) (ran_of (run_by step cs b₀ s₀ y₀))
+  pub going-empty : length cs ≤ i → ◌≡◌ {A = Ran} (record { taken = length cs; refusal = 0; state = s; tally = y }) (ran_of (run_by step cs b₀ s₀ y₀))
   unfolding run_by
-  going-empty h = going-ends {r = record { taken = 0; refusal = 0; state = s; tally = y }} (ap (λ (l : List ℕ). run_by step l b s y) (drop_of_length-le cs h)) refl
+  going-empty h =
+      let z : length cs ≡ i = omega (arith, g.within) in
+      rw z (going-ends {r = record { taken = 0; refusal = 0; state = s; tally = y }} (ap (λ (l : List ℕ). run_by step l b s y) (drop_of_length-le cs h)) refl)
 
   pub going-spent : i < length cs → b ≡ 0 → ◌≡◌ {A = Ran} (record { taken = i; refusal = 0; state = s; tally = y }) (ran_of (run_by step cs b₀ s₀ y₀))
   unfolding run_by

@@ -39,9 +39,7 @@ fn run_by(
     ensures told { told.new ≡ filled 0 (map step_number (told_by calls.step choices.now budget.old state tally)) told.old }
 {
     let mut y = tally;
-    let mut i: usize = 0;
-    while i < choices.len() {
-        let next = i + 1;
+    for (i, choice) in choices.iter().enumerate() {
         if *budget == 0 {
             return Ran {
                 taken: i,
@@ -50,7 +48,7 @@ fn run_by(
                 tally: y,
             };
         }
-        let c = step::step_by(table, flags, activities, state, choices[i], y);
+        let c = step::step_by(table, flags, activities, state, *choice, y);
         let a = c.answer;
         if a.refusal != 0 {
             return Ran {
@@ -60,21 +58,16 @@ fn run_by(
                 tally: y,
             };
         }
-        let slot = a.slot;
-        let order = c.order;
+        state.orders[a.slot] = c.order;
         let messages = c.messages;
-        let z = c.tally;
-        state.orders[slot] = order;
         state.messages = messages;
         state.waiting = c.waiting;
-        y = z;
+        y = c.tally;
         *budget -= 1;
-        let n = answers::step_number(a);
-        answers::put(told, i, n);
-        i = next;
+        answers::put(told, i, answers::step_number(a));
     }
     Ran {
-        taken: i,
+        taken: choices.len(),
         refusal: 0,
         state,
         tally: y,
@@ -96,8 +89,7 @@ pub fn run_told(
 {
     let mut table = [0u32; LENGTH];
     let mut flags = [0u8; 16];
-    let a = limits::planned(state, &mut table, &mut flags);
-    let Ok(Accepted { activities, .. }) = a else {
+    let Ok(Accepted { activities, .. }) = limits::planned(state, &mut table, &mut flags) else {
         return Ran {
             taken: 0,
             refusal: 17,

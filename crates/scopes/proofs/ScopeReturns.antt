@@ -66,12 +66,6 @@ module _ (t : List ℕ) (z : Spot) (o : Order) {o₁ : Order} {r : Went} (x : Un
       is = λ m k. stays (ends (scope_of z m)) (undo (remembered_for (scope_of z m) o₁) (scope_of z m) o₁) (x.is m k) q h ∙ sym (undone-ending m);
     }
 
-pub undoes-with : {t : List ℕ} {z : Spot} {o : Order} {r : Went} {b : Bool} → b ≡ true → Undoes t true z o r → Undoes t b z o r
-undoes-with e u = rw e u
-
-pub undoes-without : {t : List ℕ} {z : Spot} {o : Order} {r : Went} {b : Bool} → b ≡ false → Undoes t false z o r → Undoes t b z o r
-undoes-without e u = rw e u
-
 -- `turns`
 module _ (t : List ℕ) (b : Bool) (z : Spot) (o : Order) {v : Bool} (x : RunsInside t z.body z.parts o.marks v) where
   pub turns-not : v ≡ true → {r : Went} → r ≡ runs_of o → Turns t b z o r
@@ -87,7 +81,3 @@ module _ (t : List ℕ) (b : Bool) (z : Spot) (o : Order) {v : Bool} (x : RunsIn
         u.is m k
         ∙ sym (ap went (no (inner_runs m.body z.body o.marks) _ (undoes b (scope_of z m) o) (sym (x.is m.body k.body k.next) ∙ h)));
   }
-
--- `ends`
-pub ends_is : (z : Spot) (o : Order) {p : Order} → p ≡ marking (name_of z) 0 o → ◌≡◌ {A = Went} (record { way = Over; order = p }) (ends_of z o)
-ends_is z o e = rw e

@@ -18,21 +18,6 @@ use Rattle.order.specs.State.{mark_at, marked}
 use Rattle.order.proofs.Deciding.{yes, no}
 use Rattle.order.proofs.Standing.{size-pos, stands-end, stands-inside, kind_at, row-kind, scope-kind, if_none, if-more, if-scope}
 
--- `is_open`
-pub open-active : {m : ℕ} → m ≡ 1 → true ≡ is_open m
-open-active e = rw e
-
-pub open_done : {m : ℕ} → (m ≡ 1 → ⊥) → eqb m 3 ≡ is_open m
-open_done e = rw (ne_eqb _ _ e)
-
--- `withdrawn`
-pub withdrawn-is : {t : List ℕ} {k : ℕ} {z : Spot} → SpotAt t k z → {o : Order} {r : Went} → Turns t false z o r → Withdraws t k o r.order
-withdrawn-is {t} {k} {z} x {o} {r} y = record {
-  is = λ v m s.
-      ap (λ (w : Went). w.order) (y.is m (x.held v m s))
-      ∙ ap (λ (c : Scope). (turns false c o).order) (x.same v m s);
-}
-
 -- a scope that is open, one that is not, and any other activity
 stop-scope : (v : Bool) (m : Made) (k : ℕ) (o : Order) → is_open (mark_at k o) ≡ true
     → stop (scope_act v m) k o ≡ withdraws k (scope_at m.numbers k (more m.body m.parts)) (stop m.body (k + 1) (marked k 7 o))

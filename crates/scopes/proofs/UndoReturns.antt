@@ -40,14 +40,6 @@ part-is {t} {e} {ms} {z} y {u} w {r} x = record { is = is }
         let d : Stands (part (general_part ns) l) u t = rw g (part-stands t l (e + 1 + size b) (general_part ns) s.rest.rest (undo-last t e m s)) in
         rw g at (x.is (part (general_part ns) l) d)
 
--- `looks_to`
-module _ {t : List ℕ} {j kd : ℕ} (q : KindOf t j kd) (h : j < 256) where
-  pub looks_body : kd ≡ 12 → {r : ℕ} → End t (j + 1) r → LooksTo t j r
-  looks_body e z = record { past = omega (arith, z.past); within = z.within; body = λ g. z; other = λ g. absurd (g (sym (q.is h) ∙ e)) }
-
-  pub looks-other : (kd ≡ 12 → ⊥) → {r : ℕ} → End t j r → LooksTo t j r
-  looks-other e z = record { past = omega (arith, z.past); within = z.within; body = λ g. absurd (e (q.is h ∙ g)); other = λ g. z }
-
 -- of those from c on the one is looked through that e is no further than
 undo-first : (a : Act) (l : Acts) (c e : ℕ) (ms : List ℕ) → e < c + size a → begin_undo_in (more a l) c e ms ≡ begin_undo a c e ms
 unfolding begin_undo

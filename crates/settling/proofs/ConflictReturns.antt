@@ -1,32 +1,35 @@
 -- The returns of the functions on what is open. Assumes nothing.
-use Prim.Native.Nat.{ℕ, zero, suc, ◌+◌, ◌*◌, ◌-◌, ◌≤◌, ◌<◌}
+use Prim.Native.Nat.{ℕ, zero, suc, ◌+◌, ◌*◌, ◌-◌, ◌≤◌, ◌<◌, min, max}
+use Rattle.std.specs.Prelude.{Option, Some, None}
+use Rattle.std.specs.Bool.{MatchBool}
+use mathlib.Core.Logic.{◌⊎◌, inl, inr}
 use native.Mathlib.Decide.{ℕ_discrete}
 use native.Mathlib.Omega.{arith}
 use native.Mathlib.Numerals.{add-one}
 use mathlib.Core.Path.{◌≡◌, refl, sym, ap, subst, ◌∙◌}
 use mathlib.Core.Bool.{Bool, true, false, cond, ◌&&◌, ◌||◌, false≢true, or-true}
 use mathlib.Core.List.{List, [], ◌∷◌, ◌++◌}
-use lib.ListN.{length, get_or, set, drop, drop_of_length-le, length-set, replicate, length-replicate}
-use lib.Seq.{drop-cons, get_or-set_same, get_or-set_other}
+use lib.ListN.{length, get_or, set, take, drop, drop_of_length-le, length-set, length-take, length-drop, replicate, length-replicate}
+use lib.Seq.{drop-cons, get_or-set_same, get_or-set_other, get_or-take, get_or-drop}
 use lib.Dec.{eqb, ltb}
-use borrow.Author.Tests.{eqb-true, eqb-false, eq-eqb, ne_eqb, lt-ltb, le-ltb, ltb-true, ltb-false}
+use lib.Pointwise.{pointwise, bytes_decides}
+use borrow.Author.Tests.{eqb-true, eq-eqb, ne_eqb, ltb-true}
 use Rattle.plan.specs.Spells.{Spells, variables_of}
 use Rattle.plan.specs.Table.{row_of}
-use Rattle.plan.specs.Tree.{to_partner, to_held, From, from_partner, from_asking, partner_from, Own, empty, send, receive, set as setting, raise, leave, choose, repeat, sequence, flow, pick, scope, arm, kind, Act, act, Acts, none, more, Plan}
+use Rattle.plan.specs.Tree.{to_partner, to_held, From, from_partner, from_asking, partner_from, Own, empty, send, receive, set as setting, raise, leave, choose, repeat, sequence, flow, pick, scope, arm, kind, act, Acts, none, Plan}
 use Rattle.order.specs.declared.Order.{Order}
 use Rattle.plan.proofs.TableSpells.{row-variables}
 use Rattle.order.specs.Answering.{scope_kind, Spelled}
-use Rattle.order.specs.Awaited.{Doing, no_step, sends, takes, moves, cuts, closes, doing_of, awaits, Ready, ready_of}
-use Rattle.order.specs.Judging.{is_thing, is_second, Verdict, clear, clash, clash_after, conflict}
+use Rattle.order.specs.Awaited.{takes, doing_of, awaits, Ready}
+use Rattle.order.specs.Judging.{is_thing, is_second, Verdict, clash, clash_after, conflict}
 use Rattle.order.specs.Lists.{alike, some, each}
-use Rattle.order.specs.State.{active}
 use Rattle.order.proofs.Standing.{scope-kind, arm-kind}
 use Rattle.fit.specs.Answering.{Exchange, open_pick, arms_from, ArmAt}
 use Rattle.fit.specs.Lines.{Line, lines_of, is_ready, ready_at, ready_line, Stands, Tabled}
 use Rattle.fit.specs.Receiving.{receives}
 use Rattle.fit.proofs.Lines.{ready-lines, line-stands, plan-long, size-short}
 use Rattle.fit.proofs.SearchReturns.{stands-kind}
-use Rattle.settling.specs.Answering.{SameThing, Opened, opened-none, opened-other, opened-more, SeenRow, Beyond, Reaches, OpenRow, Capped, number_of, Clashes}
+use Rattle.settling.specs.Answering.{SameThing, Opened, opened-none, opened-other, opened-more, SeenRow, Beyond, Reaches, OpenRow, number_of, Clashes}
 use Rattle.settling.proofs.Parts.{both, decide}
 
 -- `same_thing`
@@ -45,15 +48,6 @@ alike_same (x ∷ l) [] e f = absurd (omega arith)
 alike_same (x ∷ l) (y ∷ m) e f =
     let a : x ≡ y = f 0 (omega arith) in
     rw (eq-eqb x y a) (alike_same l m (omega arith) (λ i h. f (suc i) (omega arith)))
-
--- the columns before the i-th are the same in two rows
-pub record Equal (t : List ℕ) (j k i : ℕ) : Type 0 where
-  pub from : 1 ≤ i
-  pub to : i ≤ 8
-  pub at : (m : ℕ) → 1 ≤ m → m < i → get_or t (j * 13 + m) 0 ≡ get_or t (k * 13 + m) 0
-
-pub equal-starts : (t : List ℕ) (j k : ℕ) → Equal t j k 1
-equal-starts t j k = record { from = omega arith; to = omega arith; at = λ m h g. absurd (omega arith) }
 
 -- two rows with the same partner, operation and variables have the same columns
 columns : (t : List ℕ) (j k a b : ℕ) (vs : List ℕ) → Exchange a b vs k t → Exchange a b vs j t → (m : ℕ) → 1 ≤ m → m < 8 → get_or t (j * 13 + m) 0 ≡ get_or t (k * 13 + m) 0
@@ -82,84 +76,97 @@ columns t j k a b vs x y m h g =
         subst (λ (z : ℕ). get_or t (j * 13 + z) 0 ≡ get_or t (k * 13 + z) 0) e
         (ap (λ (z : ℕ). get_or t z 0) u ∙ (y.variables (m - 4) l ∙ (sym (x.variables (m - 4) l) ∙ sym (ap (λ (z : ℕ). get_or t z 0) v))))
 
-module _ {t : List ℕ} {j k i : ℕ} (c : Equal t j k i) where
-  pub equal-again : i < 8 → get_or t (j * 13 + i) 0 ≡ get_or t (k * 13 + i) 0 → Equal t j k (i + 1)
-  equal-again h e =
-      record {
-        from = omega arith;
-        to = omega arith;
-        at = λ m g l. elim (ℕ_discrete m i) [ yes z ↦ rw z e | no z ↦ c.at m g (omega (arith, z)) ];
-      }
+-- the columns of a row that say what it names
+abbrev thing : List ℕ → (k : ℕ) → List ℕ
+thing t k = take (k * 13 + 8 - (k * 13 + 1)) (drop (k * 13 + 1) t)
 
-  pub equal-differs : i < 8 → (get_or t (j * 13 + i) 0 ≡ get_or t (k * 13 + i) 0 → ⊥) → SameThing t j k false
-  unfolding is_thing
-  equal-differs h f = record {
-    is = λ a b c' d vs ws x l y m.
-        decide (eqb a c' && (eqb b d && alike vs ws))
-        (λ e. absurd (both (eqb a c') _ e (λ p q. both (eqb b d) _ q (λ u v.
-        f (columns t j k a b vs x
-        (subst (λ (z : ℕ). Exchange z b vs j t) (sym (eqb-true a c' p)) (subst (λ (z : ℕ). Exchange c' z vs j t) (sym (eqb-true b d u)) (subst (λ (z : List ℕ). Exchange c' d z j t) (sym (alike-true vs ws v)) y)))
-        i c.from h)))))
-        (λ e. sym e);
-  }
+column : (t : List ℕ) (k m : ℕ) → m < 7 → get_or (thing t k) m 0 ≡ get_or t (k * 13 + (m + 1)) 0
+column t k m h =
+    let e : k * 13 + 1 + m ≡ k * 13 + (m + 1) = omega arith in
+    get_or-take (k * 13 + 8 - (k * 13 + 1)) (drop (k * 13 + 1) t) m 0 (omega arith) ∙ (get_or-drop (k * 13 + 1) t m 0 ∙ ap (λ (z : ℕ). get_or t z 0) e)
 
-  pub equal-done : 8 ≤ i → SameThing t j k true
+thing-long : (t : List ℕ) (k : ℕ) → length t ≡ 11584 → k < 256 → length (thing t k) ≡ 7
+thing-long t k l h = omega (arith, length-take (k * 13 + 8 - (k * 13 + 1)) (drop (k * 13 + 1) t), length-drop (k * 13 + 1) t)
+
+module _ (t : List ℕ) (j k : ℕ) (l : length t ≡ 11584) (g : j < 256) (h : k < 256) where
+  same-columns : ((m : ℕ) → 1 ≤ m → m < 8 → get_or t (j * 13 + m) 0 ≡ get_or t (k * 13 + m) 0) → thing t j ≡ thing t k
+  same-columns f =
+      alike-true (thing t j) (thing t k)
+      (alike_same (thing t j) (thing t k) (thing-long t j l g ∙ sym (thing-long t k l h))
+      (λ i z. let y : i < 7 = omega (arith, thing-long t j l g) in column t j i y ∙ (f (i + 1) (omega arith) (omega arith) ∙ sym (column t k i y))))
+
+  equal-thing : thing t j ≡ thing t k → SameThing t j k true
   unfolding is_thing
-  equal-done h = record {
-    is = λ a b c' d vs ws x l y m.
-        let p : a ≡ c' = sym x.partner ∙ (sym (c.at 1 (omega arith) (omega arith)) ∙ y.partner) in
-        let q : b ≡ d = sym x.operation ∙ (sym (c.at 2 (omega arith) (omega arith)) ∙ y.operation) in
-        let n : length vs ≡ length ws = sym x.count ∙ (sym (c.at 3 (omega arith) (omega arith)) ∙ y.count) in
+  equal-thing e = record {
+    is = λ a b c' d vs ws x n y m.
+        let c = at in
+        let p : a ≡ c' = sym x.partner ∙ (sym (c 1 (omega arith) (omega arith)) ∙ y.partner) in
+        let q : b ≡ d = sym x.operation ∙ (sym (c 2 (omega arith) (omega arith)) ∙ y.operation) in
+        let n : length vs ≡ length ws = sym x.count ∙ (sym (c 3 (omega arith) (omega arith)) ∙ y.count) in
         let s : alike vs ws ≡ true =
         alike_same vs ws n (λ z g.
         let u : k * 13 + 4 + z ≡ k * 13 + (4 + z) = omega arith in
         let v : j * 13 + 4 + z ≡ j * 13 + (4 + z) = omega arith in
-        sym (x.variables z (omega arith)) ∙ (ap (λ (w : ℕ). get_or t w 0) u ∙ (sym (c.at (4 + z) (omega arith) (omega arith)) ∙ (sym (ap (λ (w : ℕ). get_or t w 0) v) ∙ y.variables z (omega arith))))) in
+        sym (x.variables z (omega arith)) ∙ (ap (λ (w : ℕ). get_or t w 0) u ∙ (sym (c (4 + z) (omega arith) (omega arith)) ∙ (sym (ap (λ (w : ℕ). get_or t w 0) v) ∙ y.variables z (omega arith))))) in
         rw (eq-eqb a c' p, eq-eqb b d q, s);
   }
+    where
+      at : (m : ℕ) → 1 ≤ m → m < 8 → get_or t (j * 13 + m) 0 ≡ get_or t (k * 13 + m) 0
+      at m f z =
+          let i : m - 1 + 1 ≡ m = omega arith in
+          rw i at (sym (column t j (m - 1) (omega arith)) ∙ (ap (λ (r : List ℕ). get_or r (m - 1) 0) e ∙ column t k (m - 1) (omega arith)))
+
+  other-thing : (thing t j ≡ thing t k → ⊥) → SameThing t j k false
+  unfolding is_thing
+  other-thing f = record {
+    is = λ a b c' d vs ws x n y m.
+        decide (eqb a c' && (eqb b d && alike vs ws))
+        (λ e. absurd (both (eqb a c') _ e (λ p q. both (eqb b d) _ q (λ u v.
+        f (same-columns (columns t j k a b vs x
+        (subst (λ (z : ℕ). Exchange z b vs j t) (sym (eqb-true a c' p)) (subst (λ (z : ℕ). Exchange c' z vs j t) (sym (eqb-true b d u)) (subst (λ (z : List ℕ). Exchange c' d z j t) (sym (alike-true vs ws v)) y)))))))))
+        (λ e. sym e);
+  }
+
+  pub thing-is : (r : Bool) → r ≡ pointwise eqb (thing t j) (thing t k) → SameThing t j k r
+  thing-is true e = equal-thing ((bytes_decides (thing t j) (thing t k)).0 (sym e))
+  thing-is false e = other-thing (λ z. false≢true (e ∙ (bytes_decides (thing t j) (thing t k)).1 z))
 
 -- `is_second`
-pub record Unseen (t rows : List ℕ) (n k i : ℕ) : Type 0 where
-  pub within : i ≤ n
-  pub none : (j : ℕ) → j < i → SameThing t (get_or rows j 0) k false
+seen-none : (t rows : List ℕ) (k : ℕ) → ((j : ℕ) → j < length rows → SameThing t (get_or rows j 0) k false) → SeenRow t rows k false
+unfolding some is_thing
+seen-none t rows k c = record { is = λ l o a b vs x f. go o (omega arith) a b vs x f }
+  where
+    go : {m : ℕ} {l : List Ready} → Opened t rows m l → m ≤ length rows → (a : From) (b : ℕ) (vs : List ℕ) → Exchange (partner_from a) b vs k t → length vs ≤ 4 → false ≡ some (λ y. is_thing a b vs y.step) l
+    go opened-none g a b vs x f = refl
+    go (opened-other q o) g a b vs x f = rw (q a b vs) (go o g a b vs x f)
+    go (opened-more {n = m} {r = r} {l = l} a' b' ws y v e o) g a b vs x f =
+        let z : is_thing a b vs r.step ≡ false = ap (is_thing a b vs) e ∙ sym ((c m (omega arith)).is (partner_from a) b (partner_from a') b' vs ws x f y v) in
+        rw z (go o (omega arith) a b vs x f)
 
-pub unseen-starts : (t rows : List ℕ) (n k : ℕ) → Unseen t rows n k 0
-unseen-starts t rows n k = record { within = omega arith; none = λ j h. absurd (omega arith) }
+seen-one : (t rows : List ℕ) (k i : ℕ) → i < length rows → SameThing t (get_or rows i 0) k true → SeenRow t rows k true
+unfolding some is_thing
+seen-one t rows k i h s = record { is = λ l o a b vs x f. go o h a b vs x f }
+  where
+    go : {m : ℕ} {l : List Ready} → Opened t rows m l → i < m → (a : From) (b : ℕ) (vs : List ℕ) → Exchange (partner_from a) b vs k t → length vs ≤ 4 → true ≡ some (λ y. is_thing a b vs y.step) l
+    go opened-none g a b vs x f = absurd (omega arith)
+    go (opened-other {r = r} {l = l} u o) g a b vs x f = sym (ap (λ (z : Bool). is_thing a b vs r.step || z) (sym (go o g a b vs x f)) ∙ or-true (is_thing a b vs r.step))
+    go (opened-more {n = m} {r = r} {l = l} a' b' ws y v d o) g a b vs x f =
+        elim (ℕ_discrete m i) [
+          | yes z ↦
+              let w : SameThing t (get_or rows m 0) k true = rw z s in
+              let u : is_thing a b vs r.step ≡ true = ap (is_thing a b vs) d ∙ sym (w.is (partner_from a) b (partner_from a') b' vs ws x f y v) in
+              rw u
+          | no z ↦ sym (ap (λ (q : Bool). is_thing a b vs r.step || q) (sym (go o (omega (arith, z)) a b vs x f)) ∙ or-true (is_thing a b vs r.step))
+        ]
 
-module _ {t rows : List ℕ} {n k i : ℕ} (c : Unseen t rows n k i) where
-  pub unseen-again : i < n → {j : ℕ} → j ≡ get_or rows i 0 → {b : Bool} → SameThing t j k b → b ≡ false → Unseen t rows n k (i + 1)
-  unseen-again h e s d =
-      record {
-        within = omega arith;
-        none = λ m l. elim (ℕ_discrete m i) [ yes z ↦ rw z (rw (e, d) at s) | no z ↦ c.none m (omega (arith, z)) ];
-      }
+-- what comes of asking one after the other
+abbrev pub Seen : List ℕ → List ℕ → (k : ℕ) → Bool → Type 0
+Seen t rows k r =
+    MatchBool r ((j : ℕ) × (j < length rows) × SameThing t (get_or rows j 0) k true) ((j : ℕ) → j < length rows → SameThing t (get_or rows j 0) k false)
 
-  pub unseen-done : n ≤ i → SeenRow t rows n k false
-  unfolding some is_thing
-  unseen-done h = record { is = λ l o a b vs x f. go o (omega arith) a b vs x f }
-    where
-      go : {m : ℕ} {l : List Ready} → Opened t rows m l → m ≤ i → (a : From) (b : ℕ) (vs : List ℕ) → Exchange (partner_from a) b vs k t → length vs ≤ 4 → false ≡ some (λ y. is_thing a b vs y.step) l
-      go opened-none g a b vs x f = refl
-      go (opened-other q o) g a b vs x f = rw (q a b vs) (go o g a b vs x f)
-      go (opened-more {n = m} {r = r} {l = l} a' b' ws y v e o) g a b vs x f =
-          let z : is_thing a b vs r.step ≡ false = ap (is_thing a b vs) e ∙ sym ((c.none m (omega arith)).is (partner_from a) b (partner_from a') b' vs ws x f y v) in
-          rw z (go o (omega arith) a b vs x f)
-
-  pub unseen-found : i < n → {j : ℕ} → j ≡ get_or rows i 0 → {b : Bool} → SameThing t j k b → b ≡ true → SeenRow t rows n k true
-  unfolding some is_thing
-  unseen-found h e s q = record { is = λ l o a b vs x f. go o h a b vs x f }
-    where
-      go : {m : ℕ} {l : List Ready} → Opened t rows m l → i < m → (a : From) (b : ℕ) (vs : List ℕ) → Exchange (partner_from a) b vs k t → length vs ≤ 4 → true ≡ some (λ y. is_thing a b vs y.step) l
-      go opened-none g a b vs x f = absurd (omega arith)
-      go (opened-other {r = r} {l = l} u o) g a b vs x f = sym (ap (λ (z : Bool). is_thing a b vs r.step || z) (sym (go o g a b vs x f)) ∙ or-true (is_thing a b vs r.step))
-      go (opened-more {n = m} {r = r} {l = l} a' b' ws y v d o) g a b vs x f =
-          elim (ℕ_discrete m i) [
-            | yes z ↦
-                let w : SameThing t (get_or rows m 0) k true = rw z (rw (e, q) at s) in
-                let u : is_thing a b vs r.step ≡ true = ap (is_thing a b vs) d ∙ sym (w.is (partner_from a) b (partner_from a') b' vs ws x f y v) in
-                rw u
-            | no z ↦ sym (ap (λ (q : Bool). is_thing a b vs r.step || q) (sym (go o (omega (arith, z)) a b vs x f)) ∙ or-true (is_thing a b vs r.step))
-          ]
+pub seen-row : (t rows : List ℕ) (k : ℕ) (r : Bool) → Seen t rows k r → SeenRow t rows k r
+seen-row t rows k true h = seen-one t rows k h.0 h.1 h.2
+seen-row t rows k false h = seen-none t rows k h
 
 -- `reach_at`
 module _ (t ms : List ℕ) (reach k : ℕ) where
@@ -169,11 +176,8 @@ module _ (t ms : List ℕ) (reach k : ℕ) where
   pub reach-still : (get_or ms k 0 ≡ 1 → ⊥) → Reaches t ms reach k reach
   reach-still f = record { keeps = omega arith; covers = λ e. absurd (both (eqb (get_or t (k * 13) 0) 10) _ e (λ a b. f (eqb-true _ _ b))) }
 
-  pub reach-less : get_or t (k * 13 + 11) 0 ≤ reach → Reaches t ms reach k reach
-  reach-less h = record { keeps = omega arith; covers = λ e. h }
-
-  pub reach-more : reach < get_or t (k * 13 + 11) 0 → Reaches t ms reach k (get_or t (k * 13 + 11) 0)
-  reach-more h = record { keeps = omega arith; covers = λ e. omega arith }
+  pub reach-pick : {r : ℕ} → r ≡ max reach (get_or t (k * 13 + 11) 0) → Reaches t ms reach k r
+  reach-pick e = record { keeps = omega arith; covers = λ _. omega arith }
 
 -- `open_at`
 and-true : (b : Bool) → b ≡ (b && true)
@@ -181,13 +185,10 @@ and-true true = refl
 and-true false = refl
 
 module _ (t ms : List ℕ) (reach k : ℕ) where
-  pub open-receive : get_or t (k * 13) 0 ≡ 2 → OpenRow t ms reach k (eqb (get_or ms k 0) 1)
+  pub open-receive : (get_or t (k * 13) 0 ≡ 2) ⊎ (get_or t (k * 13) 0 ≡ 18) → OpenRow t ms reach k (eqb (get_or ms k 0) 1)
   unfolding awaits scope_kind
-  open-receive z = record { is = λ x y w. rw (arm-kind x.own, ← scope-kind x.own, sym (stands-kind y) ∙ z, y.activity) (and-true (eqb (get_or ms k 0) 1)) }
-
-  pub open-asking : get_or t (k * 13) 0 ≡ 18 → OpenRow t ms reach k (eqb (get_or ms k 0) 1)
-  unfolding awaits scope_kind
-  open-asking z = record { is = λ x y w. rw (arm-kind x.own, ← scope-kind x.own, sym (stands-kind y) ∙ z, y.activity) (and-true (eqb (get_or ms k 0) 1)) }
+  open-receive (inl z) = record { is = λ x y w. rw (arm-kind x.own, ← scope-kind x.own, sym (stands-kind y) ∙ z, y.activity) (and-true (eqb (get_or ms k 0) 1)) }
+  open-receive (inr z) = record { is = λ x y w. rw (arm-kind x.own, ← scope-kind x.own, sym (stands-kind y) ∙ z, y.activity) (and-true (eqb (get_or ms k 0) 1)) }
 
   pub open-arm : {b : Bool} → get_or t (k * 13) 0 ≡ 255 → ArmAt t ms k b → OpenRow t ms reach k b
   unfolding awaits scope_kind
@@ -206,11 +207,11 @@ module _ (t ms : List ℕ) (reach k : ℕ) where
   unfolding awaits scope_kind
   open-beyond z h = record { is = λ x y w. rw (arm-kind x.own, ← scope-kind x.own, sym (stands-kind y) ∙ z) (sym (beyond-closed w h k (omega arith)) ∙ (sym y.arms ∙ and-true x.arms)) }
 
-  pub open-other : (get_or t (k * 13) 0 ≡ 2 → ⊥) → (get_or t (k * 13) 0 ≡ 18 → ⊥) → (get_or t (k * 13) 0 ≡ 255 → ⊥) → OpenRow t ms reach k false
-  open-other z u v = record {
+  pub open-other : ((get_or t (k * 13) 0 ≡ 2) ⊎ (get_or t (k * 13) 0 ≡ 18) → ⊥) → (get_or t (k * 13) 0 ≡ 255 → ⊥) → OpenRow t ms reach k false
+  open-other z v = record {
     is = λ x y w.
-        let a : eqb (kind x.own) 2 ≡ false = ne_eqb _ _ (λ e. z (stands-kind y ∙ e)) in
-        let b : eqb (kind x.own) 18 ≡ false = ne_eqb _ _ (λ e. u (stands-kind y ∙ e)) in
+        let a : eqb (kind x.own) 2 ≡ false = ne_eqb _ _ (λ e. z (inl (stands-kind y ∙ e))) in
+        let b : eqb (kind x.own) 18 ≡ false = ne_eqb _ _ (λ e. z (inr (stands-kind y ∙ e))) in
         let c : eqb (kind x.own) 255 ≡ false = ne_eqb _ _ (λ e. v (stands-kind y ∙ e)) in
         rw (a, b, c) (and_no (is_ready ms x));
   }
@@ -315,6 +316,16 @@ opened-set m v h opened-none = opened-none
 opened-set m v h (opened-other q o) = opened-other q (opened-set m v h o)
 opened-set {t} {rows} m v h (opened-more {n = n} a b vs x f e o) =
     opened-more a b vs (subst (λ (k : ℕ). Exchange (partner_from a) b vs k t) (sym (get_or-set_other rows m n v 0 (omega arith))) x) f e (opened-set m v (omega arith) o)
+
+-- and in the first of them alone
+opened-take : {t rows : List ℕ} {n : ℕ} {l : List Ready} (m : ℕ) → n ≤ m → Opened t rows n l → Opened t (take m rows) n l
+opened-take m h opened-none = opened-none
+opened-take m h (opened-other q o) = opened-other q (opened-take m h o)
+opened-take {t} {rows} m h (opened-more {n = n} a b vs x f e o) =
+    opened-more a b vs (subst (λ (k : ℕ). Exchange (partner_from a) b vs k t) (sym (get_or-take m rows n 0 (omega arith))) x) f e (opened-take m (omega arith) o)
+
+some-same : {i j : ℕ} → i ≡ j → ◌≡◌ {A = Option ℕ} (Some i) (Some j)
+some-same e = rw e
 
 -- where the loop stands: of what is awaited, that of the rows before k was looked at
 pub record Looked (t rows : List ℕ) (m k : ℕ) (p : Plan) (o : Order) : Type 0 where
@@ -433,7 +444,11 @@ module _ {t : List ℕ} {n : ℕ} {ms rows : List ℕ} {m reach k : ℕ} (c : Lo
     same : conflict p o
         ≡ elim b as (λ _. Verdict) [ true ↦ clash line.activity | false ↦ clash_after (ready_at line ∷ looked.before) (each (ready_line o.marks) (drop (k + 1) (lines_of p o.marks))) ]
 
-  here : {b : Bool} → k < n → OpenRow t ms reach k true → SeenRow t rows m k b → (p : Plan) → Spelled p n t → (o : Order) → o.marks ≡ ms → Here p o b
+  -- as many as there are
+  seen : {p : Plan} {o : Order} (w : Looked t rows m k p o) → k ≤ 256 → Opened t (take m rows) (length (take m rows)) w.before
+  seen w h = let e : length (take m rows) ≡ m = omega (arith, length-take m rows, c.few, c.long) in rw e (opened-take m (omega arith) w.opened)
+
+  here : {b : Bool} → k < n → OpenRow t ms reach k true → SeenRow t (take m rows) k b → (p : Plan) → Spelled p n t → (o : Order) → o.marks ≡ ms → Here p o b
   unfolding is_second
   here {b} h y q p s o e =
       let x = get_or (lines_of p o.marks) k no_line in
@@ -443,7 +458,7 @@ module _ {t : List ℕ} {n : ℕ} {ms rows : List ℕ} {m reach k : ℕ} (c : Lo
       let ta = taken_at t x.own x.within k st.place st.node st.inside st.spelled st.few v in
       let w = c.is p s o e in
       let d : doing_of x.own x.within x.activity ≡ takes ta.from ta.operation ta.variables = ap (doing_of x.own x.within) st.activity ∙ ta.is in
-      let i : is_second w.before (doing_of x.own x.within x.activity) ≡ b = ap (is_second w.before) d ∙ sym (q.is w.before w.opened ta.from ta.operation ta.variables ta.row ta.few) in
+      let i : is_second w.before (doing_of x.own x.within x.activity) ≡ b = ap (is_second w.before) d ∙ sym (q.is w.before (seen w (omega (arith, size-short p s.within, s.many))) ta.from ta.operation ta.variables ta.row ta.few) in
       record {
         line = x;
         number = st.activity;
@@ -452,7 +467,7 @@ module _ {t : List ℕ} {n : ℕ} {ms rows : List ℕ} {m reach k : ℕ} (c : Lo
         same = w.same ∙ (ap (clash_after w.before) (line_first p o k (long p s o h)) ∙ (line-is w.before (rest p o) o.marks x true u ∙ second_is w.before (rest p o) (ready_at x) b i));
       })
 
-  pub looking-opens : k < n → {i : ℕ} → Capped i n → {v : ℕ} → v ≡ k → {a b : Bool} → OpenRow t ms reach k a → a ≡ true → SeenRow t rows m k b → b ≡ false → {next : ℕ} → Reaches t ms reach k next → Looking t n ms (set rows m v) (m + 1) next (k + 1)
+  pub looking-opens : k < n → n ≤ 256 → {v : ℕ} → v ≡ k → {a b : Bool} → OpenRow t ms reach k a → a ≡ true → SeenRow t (take m rows) k b → b ≡ false → {next : ℕ} → Reaches t ms reach k next → Looking t n ms (set rows m v) (m + 1) next (k + 1)
   looking-opens h u {v} j y' d q' f r =
       record {
         within = omega arith;
@@ -461,10 +476,10 @@ module _ {t : List ℕ} {n : ℕ} {ms rows : List ℕ} {m reach k : ℕ} (c : Lo
         beyond = further c.beyond r;
         is = λ p s o e.
             let y : OpenRow t ms reach k true = rw d at y' in
-            let q : SeenRow t rows m k false = rw f at q' in
+            let q : SeenRow t (take m rows) k false = rw f at q' in
             let z = here h y q p s o e in
             let ta = z.taken in
-            let x : get_or (set rows m v) m 0 ≡ k = get_or-set_same rows m v 0 (omega (arith, c.few, c.long, u.few)) ∙ j in
+            let x : get_or (set rows m v) m 0 ≡ k = get_or-set_same rows m v 0 (omega (arith, c.few, c.long)) ∙ j in
             record {
               before = ready_at z.line ∷ z.looked.before;
               opened = opened-more ta.from ta.operation ta.variables (subst (λ (i : ℕ). Exchange (partner_from ta.from) ta.operation ta.variables i t) (sym x) ta.row) ta.few
@@ -473,14 +488,14 @@ module _ {t : List ℕ} {n : ℕ} {ms rows : List ℕ} {m reach k : ℕ} (c : Lo
             };
       }
 
-  module _ {a : ℕ} (u : Capped a n) where
+  module _ {a : ℕ} (u : n ≡ min a 256) where
     as-counted : {p : Plan} → Spelled p a t → Spelled p n t
-    as-counted {p} s = subst (λ (i : ℕ). Spelled p i t) (sym (u.is (omega (arith, size-short p s.within, s.many)))) s
+    as-counted {p} s = let q : a ≡ n = omega (arith, size-short p s.within, s.many) in subst (λ (i : ℕ). Spelled p i t) q s
 
-    pub looking-finds : k < n → {x z : Bool} → OpenRow t ms reach k x → x ≡ true → SeenRow t rows m k z → z ≡ true → Clashes t a ms k
-    looking-finds h y' d q' f = record { is = λ p s o e. let y : OpenRow t ms reach k true = rw d at y' in let q : SeenRow t rows m k true = rw f at q' in let z = here h y q p (as-counted s) o e in sym (ap number_of z.same ∙ z.number) }
+    pub looking-finds : k < n → {x z : Bool} → OpenRow t ms reach k x → x ≡ true → SeenRow t (take m rows) k z → z ≡ true → Clashes t a ms (Some k)
+    looking-finds h y' d q' f = record { is = λ p s o e. let y : OpenRow t ms reach k true = rw d at y' in let q : SeenRow t (take m rows) k true = rw f at q' in let z = here h y q p (as-counted s) o e in sym (ap number_of z.same ∙ some-same z.number) }
 
-    pub looking-done : n ≤ k → Clashes t a ms 256
+    pub looking-done : n ≤ k → Clashes t a ms None
     unfolding clash_after each
     looking-done h = record {
       is = λ p s o e.

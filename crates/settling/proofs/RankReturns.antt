@@ -1,58 +1,16 @@
 -- The returns of the functions on ranks. Assumes nothing.
-use Prim.Native.Nat.{ℕ, zero, suc, ◌+◌, ◌*◌, ◌-◌, ◌%◌, ◌≤◌, ◌<◌}
+use Prim.Native.Nat.{ℕ, suc, ◌+◌, ◌*◌, ◌-◌, ◌≤◌, ◌<◌}
 use native.Mathlib.Omega.{arith}
-use native.Mathlib.Numerals.{add-one}
-use mathlib.Core.Path.{◌≡◌, refl, sym, ap, subst, ◌∙◌}
-use mathlib.Core.Bool.{Bool, true, false, cond}
+use mathlib.Core.Path.{◌≡◌, sym, ap, subst, ◌∙◌}
+use mathlib.Core.Bool.{Bool, false}
 use mathlib.Core.List.{List}
 use lib.ListN.{get_or}
-use lib.Dec.{eqb, ltb, leb}
-use borrow.Author.Tests.{ne_eqb, eq-eqb, le-leb, leb-true, leb-false, lt-ltb, le-ltb, ltb-true, ltb-false}
+use lib.Dec.{ltb}
+use borrow.Author.Tests.{lt-ltb, le-ltb, ltb-true, ltb-false}
 use Rattle.order.specs.Judging.{rank, weight}
 use Rattle.settling.specs.Answering.{rows_of, Counts, RankAt, weight_in, Lowers}
 use Rattle.settling.proofs.Parts.{decide}
 use Rattle.settling.proofs.Settling.{weight-less}
-
--- `rank`
-pub rank-active : (n m : ℕ) → m % 16 ≡ 1 → 7 ≡ rank n m
-unfolding rank
-rank-active n m e = rw e
-
-pub rank-done : (n m : ℕ) → m % 16 ≡ 3 → 6 ≡ rank n m
-unfolding rank
-rank-done n m e = rw e
-
-pub rank-faulty : (n m : ℕ) → m % 16 ≡ 4 → 5 ≡ rank n m
-unfolding rank
-rank-faulty n m e = rw e
-
-pub rank-undoing : (n m : ℕ) → m % 16 ≡ 5 → 3 ≡ rank n m
-unfolding rank
-rank-undoing n m e = rw e
-
-pub rank-handling : (n m : ℕ) → m % 16 ≡ 6 → 1 ≡ rank n m
-unfolding rank
-rank-handling n m e = rw e
-
-pub rank-halted : (n m : ℕ) → m % 16 ≡ 7 → 4 ≡ rank n m
-unfolding rank
-rank-halted n m e = rw e
-
-pub rank-withdrawing : (n m : ℕ) → m % 16 ≡ 8 → 2 ≡ rank n m
-unfolding rank
-rank-withdrawing n m e = rw e
-
-pub rank-repeat : (n m : ℕ) → m % 16 ≡ 2 → n ≡ 7 → 8 ≡ rank n m
-unfolding rank
-rank-repeat n m e d = rw (e, d)
-
-pub rank-inside : (n m : ℕ) → m % 16 ≡ 2 → (n ≡ 7 → ⊥) → 6 ≡ rank n m
-unfolding rank
-rank-inside n m e d = rw (e, rank, ne_eqb n 7 d)
-
-pub rank-other : (n m : ℕ) → (m % 16 ≡ 1 → ⊥) → (m % 16 ≡ 2 → ⊥) → (m % 16 ≡ 3 → ⊥) → (m % 16 ≡ 4 → ⊥) → (m % 16 ≡ 5 → ⊥) → (m % 16 ≡ 6 → ⊥) → (m % 16 ≡ 7 → ⊥) → (m % 16 ≡ 8 → ⊥) → 0 ≡ rank n m
-unfolding rank
-rank-other n m a b c d e f g h = rw (ne_eqb (m % 16) 2 b, ne_eqb (m % 16) 1 a, ne_eqb (m % 16) 3 c, ne_eqb (m % 16) 4 d, ne_eqb (m % 16) 7 g, ne_eqb (m % 16) 5 e, ne_eqb (m % 16) 8 h, ne_eqb (m % 16) 6 f)
 
 -- `is_lower`: the first rank that differs tells
 weight-tells : (f : ℕ → ℕ) (n k : ℕ) (ms os : List ℕ) (x y : ℕ) → (x ≡ y → ⊥) → ltb y x ≡ ltb (weight f k n os y) (weight f k n ms x)
@@ -138,12 +96,3 @@ module _ {t : List ℕ} {n b : ℕ} {ms : List ℕ} {a : ℕ} {os : List ℕ} {k
   comparing-done {r} z' h =
       let z = z'.is in
       c.is false (λ x. let i : rows_of n - k ≡ 0 = omega arith in rw i (sym (le-ltb x x (omega arith))))
-
--- `rows_of`
-pub rows_few : (n : ℕ) → n ≤ 256 → Counts n n
-unfolding rows_of
-rows_few n h = record { is = rw (le-leb n 256 h); few = h }
-
-pub rows-many : (n : ℕ) → 256 < n → Counts n 0
-unfolding rows_of
-rows-many n h = record { is = decide (leb n 256) (λ e. absurd (omega (arith, leb-true n 256 e))) (λ e. rw e); few = omega arith }

@@ -1,10 +1,11 @@
 -- An order that is judged, without its log: as it is where it ended or nothing conflicts, and else as what the raise leaves is judged. Assumes nothing.
-use Prim.Native.Nat.{ℕ, zero, suc, ◌+◌, ◌≤◌, ◌<◌}
+use Prim.Native.Nat.{ℕ, zero, suc, ◌<◌}
 use native.Mathlib.Omega.{arith}
 use mathlib.Core.Path.{◌≡◌, refl, sym, ap, subst, ◌∙◌}
-use mathlib.Core.Bool.{Bool, true, false, false≢true}
-use mathlib.Core.List.{List, [], ◌∷◌, ◌++◌}
-use Rattle.plan.specs.Tree.{Plan, size}
+use mathlib.Core.Bool.{true, false, false≢true}
+use mathlib.Core.List.{List, [], ◌++◌}
+use Rattle.std.specs.Prelude.{Option, Some}
+use Rattle.plan.specs.Tree.{Plan}
 use Rattle.order.specs.declared.Order.{Order}
 use Rattle.order.specs.declared.Next.{Next}
 use Rattle.order.specs.declared.End.{End}
@@ -63,17 +64,16 @@ goes_none Failed d = absurd (false≢true d)
 goes_none Left d = absurd (false≢true d)
 
 module _ (p : Plan) (h : Shaped p) where
-  -- the number of a conflict is one of the plan's
-  verdict-few : (o : Order) (v : Verdict) → Roomed p (closings o) v → 256 ≤ number_of v → v ≡ clear
-  verdict-few o clear r g = refl
-  verdict-few o (clash k) r g = absurd (omega (arith, r.0, h.few))
+  pub clash-is : (o : Order) (k : ℕ) → ◌≡◌ {A = Option ℕ} (Some k) (number_of (conflict p o)) → conflict p o ≡ clash k
+  clash-is o k e = by-verdict (conflict p o) e
+    where
+      by-verdict : (v : Verdict) → ◌≡◌ {A = Option ℕ} (Some k) (number_of v) → v ≡ clash k
+      by-verdict clear e = absurd cc
+      by-verdict (clash j) e = let z : k ≡ j = cc in ap clash (sym z)
 
-  verdict-number : (v : Verdict) (k : ℕ) → k ≡ number_of v → k < 256 → v ≡ clash k
-  verdict-number clear k e g = absurd (omega arith)
-  verdict-number (clash j) k e g = ap clash (sym e)
-
-  pub clash-is : (o : Order) (k : ℕ) → k ≡ number_of (conflict p o) → k < 256 → conflict p o ≡ clash k
-  clash-is o k e g = verdict-number (conflict p o) k e g
+  clear-is : (v : Verdict) → ◌≡◌ {A = Option ℕ} Option.None (number_of v) → v ≡ clear
+  clear-is clear e = refl
+  clear-is (clash k) e = absurd cc
 
   pub clash-room : (o : Order) (k : ℕ) → conflict p o ≡ clash k → room_plan p k (closings o) ≡ true
   clash-room o k e = (subst (λ (v : Verdict). Roomed p (closings o) v) e (conflict-room p o)).1
@@ -84,10 +84,10 @@ module _ (p : Plan) (h : Shaped p) where
   clear-still zero x o e = refl
   clear-still (suc n) x o e = judged-as-is p h n (so None x o []) (λ d. e)
 
-  pub settled-clear : (m : Next) → m.end ≡ None → (k : ℕ) → k ≡ number_of (conflict p m.order) → 256 ≤ k → next_of (settled p (moved_as m)) ≡ m
+  pub settled-clear : (m : Next) → m.end ≡ None → ◌≡◌ {A = Option ℕ} Option.None (number_of (conflict p m.order)) → next_of (settled p (moved_as m)) ≡ m
   unfolding settled
-  settled-clear m d k e g =
-      let c : conflict p m.order ≡ clear = verdict-few m.order (conflict p m.order) (conflict-room p m.order) (omega arith) in
+  settled-clear m d e =
+      let c : conflict p m.order ≡ clear = clear-is (conflict p m.order) e in
       ap (λ (x : End). next_of (judged (spare p m.order) p (so x m.fault m.order []))) d ∙ (ap next_of (clear-still (spare p m.order) m.fault m.order c) ∙ ap (λ (x : End). next_of (so x m.fault m.order [])) (sym d))
 
   higher : (o : Order) (k : ℕ) → conflict p o ≡ clash k → Higher p o k

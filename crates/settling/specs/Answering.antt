@@ -1,9 +1,9 @@
 -- Glue: the code's answers on what is open, by what the definitions say. Assumes nothing: these are definitions, and nothing here has to be believed.
-use Rattle.std.specs.Prelude.{ℕ, zero, suc, ◌+◌, ◌*◌, ◌≤◌, ◌<◌, Bool, true, false, cond, ◌&&◌, List, [], ◌∷◌, ◌≡◌, ltb, leb, length, get_or}
+use Rattle.std.specs.Prelude.{ℕ, ◌+◌, ◌*◌, ◌≤◌, ◌<◌, Bool, true, false, cond, ◌&&◌, List, [], ◌∷◌, ◌≡◌, ltb, leb, length, get_or, Option, Some, None}
 use Rattle.plan.specs.Tree.{From, from_partner, partner_from, Plan}
 use Rattle.order.specs.declared.Order.{Order}
 use Rattle.order.specs.Answering.{Spelled}
-use Rattle.order.specs.Awaited.{Doing, takes, Ready}
+use Rattle.order.specs.Awaited.{takes, Ready}
 use Rattle.order.specs.Judging.{is_thing, Verdict, clear, clash, conflict, rank, weight}
 use Rattle.order.specs.Lists.{some}
 use Rattle.fit.specs.Answering.{Exchange, open_pick}
@@ -21,9 +21,9 @@ pub data Opened (t rows : List ℕ) : ℕ → List Ready → Type 0 where
   opened-more : {n : ℕ} {r : Ready} {l : List Ready} (a : From) (b : ℕ) (vs : List ℕ) → Exchange (partner_from a) b vs (get_or rows n 0) t → length vs ≤ 4 → r.step ≡ takes a b vs
       → Opened t rows n l → Opened t rows (n + 1) (r ∷ l)
 
--- r says whether the receive or arm in row k is for the same thing as one in the first n of these rows
-pub record SeenRow (t rows : List ℕ) (n k : ℕ) (r : Bool) : Type 0 where
-  pub is : (l : List Ready) → Opened t rows n l → (a : From) (b : ℕ) (vs : List ℕ) → Exchange (partner_from a) b vs k t → length vs ≤ 4 → r ≡ some (λ x. is_thing a b vs x.step) l
+-- r says whether the receive or arm in row k is for the same thing as one in these rows
+pub record SeenRow (t rows : List ℕ) (k : ℕ) (r : Bool) : Type 0 where
+  pub is : (l : List Ready) → Opened t rows (length rows) l → (a : From) (b : ℕ) (vs : List ℕ) → Exchange (partner_from a) b vs k t → length vs ≤ 4 → r ≡ some (λ x. is_thing a b vs x.step) l
 
 -- no active pick before row k ends beyond `reach`
 pub record Beyond (t ms : List ℕ) (reach k : ℕ) : Type 0 where
@@ -38,18 +38,13 @@ pub record Reaches (t ms : List ℕ) (reach k r : ℕ) : Type 0 where
 pub record OpenRow (t ms : List ℕ) (reach k : ℕ) (r : Bool) : Type 0 where
   pub is : (x : Line) → Stands t ms k x → Beyond t ms reach k → r ≡ (is_ready ms x && receives x.own)
 
--- r is the count x of rows, where there are no more than 256
-pub record Capped (x r : ℕ) : Type 0 where
-  pub few : r ≤ 256
-  pub is : x ≤ 256 → r ≡ x
-
--- the number of an activity that faults, 256 where none does
-abbrev pub number_of : Verdict → ℕ
-number_of clear = 256
-number_of (clash k) = k
+-- the number of an activity that faults, none where none does
+abbrev pub number_of : Verdict → Option ℕ
+number_of clear = None
+number_of (clash k) = Some k
 
 -- r is the higher number of the first pair
-pub record Clashes (t : List ℕ) (activities : ℕ) (ms : List ℕ) (r : ℕ) : Type 0 where
+pub record Clashes (t : List ℕ) (activities : ℕ) (ms : List ℕ) (r : Option ℕ) : Type 0 where
   pub is : (p : Plan) → Spelled p activities t → (o : Order) → o.marks ≡ ms → r ≡ number_of (conflict p o)
 
 -- how many rows are compared: none of a table with more than 256

@@ -1,6 +1,6 @@
 // The receives and arms that are open in an order, judged: the higher-numbered of two that are for one thing.
 ghost use Rattle.std.specs.Prelude.{◌≤◌, ◌<◌, ◌≡◌};
-ghost use Rattle.settling.specs.Answering.{SameThing, SeenRow, Reaches, OpenRow, Capped, Clashes};
+ghost use Rattle.settling.specs.Answering.{SameThing, SeenRow, Reaches, OpenRow, Clashes};
 
 use fit::search::arm_at;
 use order::mark;
@@ -12,43 +12,18 @@ fn same_thing(table: &Table, j: usize, k: usize) -> bool
     requires { (j < 256) × (k < 256) }
     ensures { SameThing table.now j k result }
 {
-    let mut i: usize = PARTNER;
-    while i < VARIABLE {
-        if table[j * WIDTH + i] != table[k * WIDTH + i] {
-            return false;
-        }
-        i += 1;
-    }
-    true
+    table[j * WIDTH + PARTNER..j * WIDTH + VARIABLE]
+        == table[k * WIDTH + PARTNER..k * WIDTH + VARIABLE]
 }
 
-// A row as it stands in a list of rows, and as it is put there.
-fn wide(row: u8) -> usize
-    ensures { (result ≡ row) × (result < 256) }
+// Whether one of the open rows names what row k names.
+fn is_second(table: &Table, opened: &[u8], k: usize) -> bool
+    requires { k < 256 }
+    ensures { SeenRow table.now opened.now k result }
 {
-    row as usize
-}
-
-fn narrow(row: usize) -> u8
-    requires { row < 256 }
-    ensures { result ≡ row }
-{
-    row as u8
-}
-
-// Whether one of the first n open rows names what row k names.
-fn is_second(table: &Table, opened: &[u8; 256], n: usize, k: usize) -> bool
-    requires { (n ≤ 256) × (k < 256) }
-    ensures { SeenRow table.now opened.now n k result }
-{
-    let mut i: usize = 0;
-    while i < n {
-        if same_thing(table, wide(opened[i]), k) {
-            return true;
-        }
-        i += 1;
-    }
-    false
+    opened
+        .iter()
+        .any(|row| same_thing(table, usize::from(*row), k))
 }
 
 // Where the active picks among the rows up to row k end, the rows before it ending at `reach`.
@@ -56,14 +31,11 @@ fn reach_at(table: &Table, marks: &[u8; 256], reach: u32, k: usize) -> u32
     requires { k < 256 }
     ensures { Reaches table.now marks.now reach k result }
 {
-    if table[k * WIDTH] == kind::PICK {
-        if marks[k] == mark::ACTIVE {
-            if reach < table[k * WIDTH + END] {
-                return table[k * WIDTH + END];
-            }
-        }
+    if table[k * WIDTH] == kind::PICK && marks[k] == mark::ACTIVE {
+        reach.max(table[k * WIDTH + END])
+    } else {
+        reach
     }
-    reach
 }
 
 // Whether row k is an open receive or arm, where the active picks before it end at `reach`: an arm beyond is not open.
@@ -71,52 +43,32 @@ fn open_at(table: &Table, marks: &[u8; 256], reach: u32, k: usize) -> bool
     requires { k < 256 }
     ensures { OpenRow table.now marks.now reach k result }
 {
-    let kind = table[k * WIDTH];
-    if kind == kind::RECEIVE {
-        return marks[k] == mark::ACTIVE;
+    match table[k * WIDTH] {
+        kind::RECEIVE | kind::ASKING_RECEIVE => marks[k] == mark::ACTIVE,
+        kind::ARM => (k as u32) < reach && arm_at(table, marks, k),
+        _ => false,
     }
-    if kind == kind::ASKING_RECEIVE {
-        return marks[k] == mark::ACTIVE;
-    }
-    if kind == kind::ARM {
-        if (k as u32) < reach {
-            return arm_at(table, marks, k);
-        }
-    }
-    false
 }
 
-// A count of rows: at most all 256.
-fn capped(x: usize) -> usize
-    ensures { Capped x result }
-{
-    if x <= 256 { x } else { 256 }
-}
-
-// The higher number of two that are open for one thing, of several pairs the one whose higher number is least; 256 where no two are. One pass over the
+// The higher number of two that are open for one thing, of several pairs the one whose higher number is least; none where no two are. One pass over the
 // rows, and one comparison for each two that are open.
-pub fn first_conflict(table: &Table, activities: usize, marks: &[u8; 256]) -> usize
+pub fn first_conflict(table: &Table, activities: usize, marks: &[u8; 256]) -> Option<usize>
     ensures { Clashes table.now activities marks.now result }
 {
-    let rows = capped(activities);
-    let mut opened = [0u8; 256];
-    let mut n: usize = 0;
-    let mut reach: u32 = 0;
-    let mut k: usize = 0;
-    while k < rows {
-        let next = reach_at(table, marks, reach, k);
+    // Stays: (a) `opened` has its length beside it: nothing is allocated.
+    let rows = activities.min(256);
+    let mut opened = [0; 256];
+    let mut n = 0;
+    let mut reach = 0;
+    for k in 0..rows {
         if open_at(table, marks, reach, k) {
-            if is_second(table, &opened, n, k) {
-                return k;
+            if is_second(table, &opened[..n], k) {
+                return Some(k);
             }
-            opened[n] = narrow(k);
+            opened[n] = k as u8;
             n += 1;
-            reach = next;
-            k += 1;
-            continue;
         }
-        reach = next;
-        k += 1;
+        reach = reach_at(table, marks, reach, k);
     }
-    256
+    None
 }

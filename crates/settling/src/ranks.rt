@@ -8,19 +8,14 @@ use plan::kind;
 use plan::table::{Table, WIDTH};
 
 // How far a mark is from idle, for an activity of this kind: a choice of a fault part beside it does not matter.
+#[tactic(auto, unfolding(order::specs::Judging::rank))]
 fn rank(kind: u32, mark: u8) -> u32
     ensures { result ≡ rank_of kind mark }
 {
-    let state = mark % 16;
-    match state {
+    match mark % 16 {
         mark::ACTIVE => 7,
-        mark::INSIDE => {
-            if kind == kind::REPEAT {
-                return 8;
-            }
-            6
-        }
-        mark::DONE => 6,
+        mark::INSIDE if kind == kind::REPEAT => 8,
+        mark::INSIDE | mark::DONE => 6,
         mark::FAULTY => 5,
         mark::UNDOING => 3,
         mark::HANDLING => 1,
@@ -39,6 +34,7 @@ fn rank_at(table: &Table, marks: &[u8; 256], k: usize) -> u32
 }
 
 // How many rows are compared: none of a table with more than 256.
+#[tactic(auto, unfolding(crate::specs::Answering::rows_of))]
 fn rows_of(activities: usize) -> usize
     ensures { Counts activities result }
 {
@@ -61,15 +57,12 @@ pub fn is_lower(
     if x != y {
         return y < x;
     }
-    let rows = rows_of(activities);
-    let mut k: usize = 0;
-    while k < rows {
+    for k in 0..rows_of(activities) {
         let v = rank_at(table, marks, k);
         let w = rank_at(table, others, k);
         if v != w {
             return w < v;
         }
-        k += 1;
     }
     false
 }

@@ -1,3 +1,4 @@
 pub mod Changed
 mod Taken
 mod StepReturns
+pub mod Sets

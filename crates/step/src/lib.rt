@@ -50,10 +50,9 @@ fn refused(number: u32) -> Step
 fn unchanged(answer: Step, messages: [Message; 64], waiting: usize, tally: Tally) -> Change
     ensures { result ≡ nothing_by answer messages waiting tally }
 {
-    let order = made::no_order();
     Change {
         answer,
-        order,
+        order: made::no_order(),
         messages,
         waiting,
         tally,
@@ -62,6 +61,7 @@ fn unchanged(answer: Step, messages: [Message; 64], waiting: usize, tally: Tally
 
 // What the step with a choice changes, in a state that has the plan with this table and these flags. A state goes by value, so that each call with it
 // copies it: what changes is handed back, and the caller puts it into its own.
+#[tactic(auto, using(crate::proofs::Sets::step_by))]
 pub fn step_by(
     table: &Table,
     flags: &[u8; 16],
@@ -78,16 +78,21 @@ pub fn step_by(
     if x.refusal != 0 {
         return unchanged(x, messages, waiting, tally);
     }
-    let slot = x.slot;
-    if 16 <= slot {
-        let none = refused(17);
-        return unchanged(none, messages, waiting, tally);
+    if 16 <= x.slot {
+        return unchanged(refused(17), messages, waiting, tally);
     }
     // an index into the state's own orders would copy the state
     let orders = state.orders;
-    let order = orders[slot];
     stepping::moved(
-        table, activities, order, messages, waiting, slot, x.activity, x.place, tally,
+        table,
+        activities,
+        orders[x.slot],
+        messages,
+        waiting,
+        x.slot,
+        x.activity,
+        x.place,
+        tally,
     )
 }
 
@@ -97,38 +102,34 @@ pub fn take_step(state: State, choice: usize, tally: Tally) -> Stepped
 {
     let mut table = [0u32; LENGTH];
     let mut flags = [0u8; 16];
-    let a = limits::planned(state, &mut table, &mut flags);
-    let Ok(Accepted { activities, .. }) = a else {
-        let answer = refused(17);
+    let Ok(Accepted { activities, .. }) = limits::planned(state, &mut table, &mut flags) else {
         return Stepped {
-            answer,
+            answer: refused(17),
             state,
             tally,
         };
     };
     let c = step_by(&table, &flags, activities, state, choice, tally);
     let answer = c.answer;
-    let y = c.tally;
     if answer.refusal != 0 {
         return Stepped {
             answer,
             state,
-            tally: y,
+            tally: c.tally,
         };
     }
-    let slot = answer.slot;
-    let order = c.order;
-    let rest = c.messages;
     let mut orders = state.orders;
-    orders[slot] = order;
-    let mut next = state;
-    next.orders = orders;
-    next.messages = rest;
-    next.waiting = c.waiting;
+    orders[answer.slot] = c.order;
+    let messages = c.messages;
     Stepped {
         answer,
-        state: next,
-        tally: y,
+        state: State {
+            orders,
+            messages,
+            waiting: c.waiting,
+            ..state
+        },
+        tally: c.tally,
     }
 }
 
@@ -136,8 +137,7 @@ pub fn take_step(state: State, choice: usize, tally: Tally) -> Stepped
 pub fn step(state: State, choice: usize, tally: &mut Tally) -> Stepped
     ensures { (result ≡ bare (calls.step choice state tally.old)) × (tally.new ≡ result.tally) }
 {
-    let y = *tally;
-    let r = take_step(state, choice, y);
+    let r = take_step(state, choice, *tally);
     *tally = r.tally;
     r
 }

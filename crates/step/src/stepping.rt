@@ -16,66 +16,62 @@ use plan::table::{COUNT, OPERATION, PARTNER, Table, VARIABLES, WIDTH};
 fn value_of(order: Order, v: u32) -> u32
     ensures { Worths order v result }
 {
-    if 16 <= v {
-        return 0;
-    }
-    let i = v as usize;
-    order.values[i]
+    if v < 16 { order.values[v as usize] } else { 0 }
 }
 
 // The values of the variables that row k names, with zeros behind them.
+#[tactic(auto, using(crate::proofs::Sets::sent_values))]
 fn sent_values(table: &Table, k: usize, order: Order) -> [u32; 4]
     requires { k < 256 }
     ensures { SentValues table.now k order result }
 {
-    let mut out = [0u32; 4];
+    let mut out = [0; 4];
     let count = table[k * WIDTH + COUNT];
     if 4 < count {
         return out;
     }
-    let n = count as usize;
-    let mut i: usize = 0;
-    while i < n {
-        let x = value_of(order, table[k * WIDTH + VARIABLES + i]);
-        out[i] = x;
-        i += 1;
+    for i in 0..count as usize {
+        out[i] = value_of(order, table[k * WIDTH + VARIABLES + i]);
     }
     out
 }
 
 // The reply partner that the message of the send in row k carries: a send to a held partner has it in the place of a partner, and any other carries 0.
+#[tactic(auto, using(crate::proofs::Sets::sent_reply))]
 fn sent_reply(table: &Table, k: usize) -> u32
     requires { k < 256 }
     ensures { SentReply table.now k result }
 {
     if table[k * WIDTH] == kind::HELD_SEND {
-        return table[k * WIDTH + PARTNER];
+        table[k * WIDTH + PARTNER]
+    } else {
+        0
     }
-    0
 }
 
 // The messages after the send in row k: its message is added where it would send.
+#[tactic(auto, using(crate::proofs::Sets::sent))]
 fn sent(table: &Table, k: usize, order: Order, messages: [Message; 64], waiting: usize) -> Mail
     requires { k < 256 }
     ensures { SendsMail table.now k order messages waiting result }
 {
     let bound = order.bound;
     let held = order.values;
-    if may_send(table, k, &bound, &held) {
-        let values = sent_values(table, k, order);
-        let m = Message {
-            partner: partner_to(table, k, &held),
-            operation: table[k * WIDTH + OPERATION],
-            count: table[k * WIDTH + COUNT],
-            values,
-            reply: sent_reply(table, k),
-        };
-        return letters::with_message(messages, waiting, m);
+    if !may_send(table, k, &bound, &held) {
+        return Mail { messages, waiting };
     }
-    Mail { messages, waiting }
+    let m = Message {
+        partner: partner_to(table, k, &held),
+        operation: table[k * WIDTH + OPERATION],
+        count: table[k * WIDTH + COUNT],
+        values: sent_values(table, k, order),
+        reply: sent_reply(table, k),
+    };
+    letters::with_message(messages, waiting, m)
 }
 
 // The messages after the step of activity k: a send adds one, a take removes one.
+#[tactic(auto, using(crate::proofs::Sets::messages_after))]
 fn messages_after(
     table: &Table,
     activities: usize,
@@ -91,25 +87,17 @@ fn messages_after(
         return Mail { messages, waiting };
     }
     let kind = table[k * WIDTH];
-    if kind == kind::SEND {
-        return sent(table, k, order, messages, waiting);
+    if kind == kind::SEND || kind == kind::HELD_SEND {
+        sent(table, k, order, messages, waiting)
+    } else if kind == kind::RECEIVE || kind == kind::ASKING_RECEIVE || kind == kind::ARM {
+        letters::without_message(messages, waiting, place)
+    } else {
+        Mail { messages, waiting }
     }
-    if kind == kind::HELD_SEND {
-        return sent(table, k, order, messages, waiting);
-    }
-    if kind == kind::RECEIVE {
-        return letters::without_message(messages, waiting, place);
-    }
-    if kind == kind::ASKING_RECEIVE {
-        return letters::without_message(messages, waiting, place);
-    }
-    if kind == kind::ARM {
-        return letters::without_message(messages, waiting, place);
-    }
-    Mail { messages, waiting }
 }
 
 // What a message gives to whoever takes it: its four values, and then its reply partner.
+#[tactic(auto, using(crate::proofs::Sets::given_by))]
 fn given_by(m: Message) -> [u32; 5]
     ensures { result ≡ gives m }
 {
@@ -118,90 +106,64 @@ fn given_by(m: Message) -> [u32; 5]
 }
 
 // What the message at a place gives; nothing but zeros where there is no such place.
+#[tactic(auto, using(crate::proofs::Sets::letter_values))]
 fn letter_values(messages: [Message; 64], place: usize) -> [u32; 5]
     ensures { result ≡ gives (get_or messages place no_message) }
 {
     if place < 64 {
-        let m = messages[place];
-        return given_by(m);
+        given_by(messages[place])
+    } else {
+        given_by(made::no_message())
     }
-    given_by(made::no_message())
 }
 
 // One more, up to the greatest.
+#[tactic(auto, using(crate::proofs::Sets::counted))]
 fn counted(n: u32) -> u32
     ensures { result ≡ counted_of n }
 {
-    if n < 4294967295 {
-        return n + 1;
-    }
-    n
+    n.saturating_add(1)
 }
 
 // One more order that started.
+#[tactic(auto, using(crate::proofs::Sets::count_start))]
 fn count_start(tally: Tally) -> Tally
     ensures { result ≡ count_start tally }
 {
-    let n = counted(tally.started);
     Tally {
-        started: n,
-        well: tally.well,
-        handled: tally.handled,
-        failed: tally.failed,
-        left: tally.left,
+        started: counted(tally.started),
+        ..tally
     }
 }
 
 // One more order that ended so, if it did.
+#[tactic(auto, using(crate::proofs::Sets::count_end))]
 fn count_end(end: End, tally: Tally) -> Tally
     ensures { result ≡ count_end end tally }
 {
     match end {
         End::None => tally,
-        End::Well => {
-            let n = counted(tally.well);
-            Tally {
-                started: tally.started,
-                well: n,
-                handled: tally.handled,
-                failed: tally.failed,
-                left: tally.left,
-            }
-        }
-        End::Handled => {
-            let n = counted(tally.handled);
-            Tally {
-                started: tally.started,
-                well: tally.well,
-                handled: n,
-                failed: tally.failed,
-                left: tally.left,
-            }
-        }
-        End::Failed => {
-            let n = counted(tally.failed);
-            Tally {
-                started: tally.started,
-                well: tally.well,
-                handled: tally.handled,
-                failed: n,
-                left: tally.left,
-            }
-        }
-        End::Left => {
-            let n = counted(tally.left);
-            Tally {
-                started: tally.started,
-                well: tally.well,
-                handled: tally.handled,
-                failed: tally.failed,
-                left: n,
-            }
-        }
+        End::Well => Tally {
+            well: counted(tally.well),
+            ..tally
+        },
+        End::Handled => Tally {
+            handled: counted(tally.handled),
+            ..tally
+        },
+        End::Failed => Tally {
+            failed: counted(tally.failed),
+            ..tally
+        },
+        End::Left => Tally {
+            left: counted(tally.left),
+            ..tally
+        },
     }
 }
 
 // What an order moves to with the step of an activity: it takes the values of the message at a place, and moves on.
+#[tactic(auto, using(crate::proofs::Sets::next_of))]
 fn next_of(
     table: &Table,
     activities: usize,
@@ -218,6 +180,7 @@ fn next_of(
 }
 
 // What the step of an activity of the order in a slot changes: the order takes the values of its message and moves on, and the messages move too.
+#[tactic(auto, using(crate::proofs::Sets::moved_from))]
 fn moved_from(
     table: &Table,
     activities: usize,
@@ -233,27 +196,25 @@ fn moved_from(
 {
     let n = next_of(table, activities, messages, order, activity, place);
     let w = messages_after(table, activities, messages, waiting, order, activity, place);
-    let end = n.end;
-    let o = n.order;
-    let rest = w.messages;
-    let y = count_end(end, tally);
+    let messages = w.messages;
     Change {
         answer: Step {
             refusal: 0,
             slot,
             activity,
             place,
-            end,
+            end: n.end,
             fault: n.fault,
         },
-        order: o,
-        messages: rest,
+        order: n.order,
+        messages,
         waiting: w.waiting,
-        tally: y,
+        tally: count_end(n.end, tally),
     }
 }
 
 // What the offer of an activity and a place changes in the slot with this order: it is taken by the order, or by a new one where the slot is free.
+#[tactic(auto, using(crate::proofs::Sets::moved))]
 pub(crate) fn moved(
     table: &Table,
     activities: usize,
@@ -270,11 +231,12 @@ pub(crate) fn moved(
     if order.root == 0 {
         let new = beginning::started_order(table);
         let y = count_start(tally);
-        return moved_from(
+        moved_from(
             table, activities, new, messages, waiting, slot, activity, place, y,
-        );
+        )
+    } else {
+        moved_from(
+            table, activities, order, messages, waiting, slot, activity, place, tally,
+        )
     }
-    moved_from(
-        table, activities, order, messages, waiting, slot, activity, place, tally,
-    )
 }

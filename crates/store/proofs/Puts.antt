@@ -1,13 +1,15 @@
 -- Bytes written one after the other. Assumes nothing.
 use mathlib.Core.Path.{◌≡◌, refl, sym, ap, ◌∙◌}
-use mathlib.Core.List.{List, [], ◌∷◌, ◌++◌, append-nil}
+use mathlib.Core.List.{List, [], ◌∷◌, ◌++◌, append-nil, append_assoc}
 use Prim.Native.Nat.{ℕ, suc, ◌+◌, ◌*◌, ◌-◌, ◌/◌, ◌%◌, ◌<◌, ◌≤◌}
 use native.Mathlib.Nat.{add-zero, zero-mul, suc-mul}
 use native.Mathlib.Omega.{arith}
 use native.Mathlib.Numerals.{add-one}
-use lib.ListN.{length, get_or, drop, set, length-append, drop_of_length-le}
+use lib.ListN.{length, get_or, take, drop, set, length-append, drop_of_length-le}
 use lib.Seq.{sets, sets-eq, length-sets, drop-cons, drop-length}
 use Rattle.order.specs.Lists.{each}
+use Rattle.std.proofs.Math.Seq.{paste}
+use Rattle.std.proofs.lemmas.List.Edits.{paste_all}
 use Rattle.store.specs.Bytes.{spelled}
 use Rattle.store.specs.Putting.{Put}
 
@@ -61,24 +63,9 @@ going-ends g e = record { is = g.is; size = omega (arith, g.size) }
 pub put_one : (l : List ℕ) (i x : ℕ) → Put l (set l i x) i 1 (x ∷ [])
 put_one l i x = record { is = refl; size = refl }
 
--- Bytes: i of them are written.
-pub record Copying (l₀ l : List ℕ) (at : ℕ) (s : List ℕ) (i : ℕ) : Type 0 where
-  pub going : Going l₀ l at s (at + i) (drop i s)
-  pub within : i ≤ length s
-
-pub copying-starts : (l : List ℕ) (at : ℕ) (s : List ℕ) → Copying l l at s 0
-copying-starts l at s = record { going = going-starts l at (at + 0) s (add-zero at); within = omega arith }
-
-pub copying-more : {l₀ l s : List ℕ} {at i : ℕ} → Copying l₀ l at s i → i < length s → Copying l₀ (set l (at + i) (get_or s i 0)) at s (i + 1)
-copying-more {l₀} {l} {s} {at} {i} g h =
-    let e : drop i s ≡ (get_or s i 0 ∷ []) ++ drop (i + 1) s = rw (add-one, drop-cons s i 0) in
-    let k : Going l₀ l at s (at + i) ((get_or s i 0 ∷ []) ++ drop (i + 1) s) = rw e at g.going in
-    record { going = going_on k (put_one l (at + i) (get_or s i 0)) (omega arith); within = omega arith }
-
-pub copying-ends : {l₀ l s : List ℕ} {at i : ℕ} → Copying l₀ l at s i → length s ≤ i → Put l₀ l at (length s) s
-copying-ends {l₀} {l} {s} {at} {i} g h =
-    let k : Going l₀ l at s (at + i) [] = rw (drop_of_length-le s h) at g.going in
-    going-ends k (omega (arith, g.within))
+-- bytes copied over a part
+pub put_pasted : (l : List ℕ) {m : List ℕ} (at : ℕ) (s : List ℕ) → at + length s ≤ length l → m ≡ paste l at s (length s) → Put l m at (length s) s
+put_pasted l at s h e = record { is = e ∙ (paste_all l at s (length s) refl ∙ (sym (append_assoc (take at l) s (drop (at + length s) l)) ∙ sym (sets-eq s l at h))); size = refl }
 
 -- A number of w bytes: i of them are written, and `rest` is what is left of the number.
 pub record Spelling (l₀ l : List ℕ) (at w n i rest : ℕ) : Type 0 where

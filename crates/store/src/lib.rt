@@ -9,8 +9,8 @@ ghost use Rattle.machine.specs.State.{unplanned, no_tally};
 ghost use Rattle.store.specs.Bytes.{eight_at};
 ghost use Rattle.store.specs.Packed.{packed, packed_into, message_into, unpacked, kept_as};
 
+use machine::made::{no_message, no_order};
 use machine::{Message, State, Tally};
-use order::{Closing, Order};
 
 // What bytes hold: where `refused` is false, a state with its tally; else the state with no plan, with nothing counted.
 #[derive(Clone, Copy)]
@@ -27,13 +27,13 @@ pub fn pack(state: State, tally: Tally, out: &mut [u8]) -> bool
     ensures is { out.new ≡ packed_into state tally out.old }
     ensures back { unpacked (packed state tally) ≡ kept_as false state tally }
 {
-    if out.len() == 12748 {
-        writing::put_number(out, 0, 8, 3768458767009533773);
-        writing::put_tally(out, 8, tally);
-        writing::put_state(out, 28, state);
-        return true;
+    if out.len() != 12748 {
+        return false;
     }
-    false
+    writing::put_number(out, 0, 8, 3768458767009533773);
+    writing::put_tally(out, 8, tally);
+    writing::put_state(out, 28, state);
+    true
 }
 
 // Writes a message into the first 32 of the caller's bytes, and says whether there are as many; it writes nothing where there are not.
@@ -41,21 +41,18 @@ pub fn write_message(m: Message, out: &mut [u8]) -> bool
     ensures fits { result ≡ leb 32 (length out.old) }
     ensures is { out.new ≡ message_into m out.old }
 {
-    if 32 <= out.len() {
-        writing::put_message(out, 0, m);
-        return true;
+    if out.len() < 32 {
+        return false;
     }
-    false
+    writing::put_message(out, 0, m);
+    true
 }
 
 // The number in the 8 bytes from a place on, 0 where there are not as many.
 pub fn number_at(s: &[u8], at: usize) -> usize
     ensures { result ≡ eight_at s.now at }
 {
-    if s.len() < 8 {
-        return 0;
-    }
-    if s.len() - 8 < at {
+    if s.len() < 8 || s.len() - 8 < at {
         return 0;
     }
     reading::eight_at(s, at)
@@ -65,31 +62,11 @@ pub fn number_at(s: &[u8], at: usize) -> usize
 fn no_state() -> State
     ensures { result ≡ unplanned }
 {
-    let closing = Closing { scope: 0, part: 0 };
-    let remembered = [closing; 32];
-    let o = Order {
-        root: 0,
-        marks: [0u8; 256],
-        values: [0u32; 16],
-        bound: [0u8; 16],
-        remembered,
-        kept: 0,
-        cause: 0,
-    };
-    let m = Message {
-        partner: 0,
-        operation: 0,
-        count: 0,
-        values: [0u32; 4],
-        reply: 0,
-    };
-    let orders = [o; 16];
-    let messages = [m; 64];
     State {
-        plan: [0u8; 4096],
+        plan: [0; 4096],
         length: 0,
-        orders,
-        messages,
+        orders: [no_order(); 16],
+        messages: [no_message(); 64],
         waiting: 0,
     }
 }
@@ -98,12 +75,10 @@ fn no_state() -> State
 fn nothing() -> Kept
     ensures { result ≡ kept_as true unplanned no_tally }
 {
-    let state = no_state();
-    let tally = machine::no_tally();
     Kept {
         refused: true,
-        state,
-        tally,
+        state: no_state(),
+        tally: machine::no_tally(),
     }
 }
 
@@ -111,17 +86,12 @@ fn nothing() -> Kept
 pub fn unpack(s: &[u8]) -> Kept
     ensures { result ≡ unpacked s.now }
 {
-    if s.len() == 12748 {
-        if reading::eight_at(s, 0) == 3768458767009533773 {
-            let tally = reading::tally_at(s, 8);
-            let state = reading::state_at(s, 28);
-            return Kept {
-                refused: false,
-                state,
-                tally,
-            };
-        }
+    if s.len() != 12748 || reading::eight_at(s, 0) != 3768458767009533773 {
         return nothing();
     }
-    nothing()
+    Kept {
+        refused: false,
+        state: reading::state_at(s, 28),
+        tally: reading::tally_at(s, 8),
+    }
 }

@@ -50,11 +50,7 @@ fn take_bytes(s: &[u8], at: usize, out: &mut [u8])
     requires { at + length out.old ≤ length s.now }
     ensures { out.new ≡ take (length out.old) (drop at s.now) }
 {
-    let mut i = 0;
-    while i < out.len() {
-        out[i] = s[at + i];
-        i += 1;
-    }
+    out.copy_from_slice(&s[at..at + out.len()]);
 }
 
 // Numbers in 4 bytes each, as many as there is room for.
@@ -62,11 +58,8 @@ fn take_fours(s: &[u8], at: usize, out: &mut [u32])
     requires { at + 4 * length out.old ≤ length s.now }
     ensures { out.new ≡ many_in (number_in 4) 4 (length out.old) (drop at s.now) }
 {
-    let mut i = 0;
-    while i < out.len() {
-        let n = four_at(s, at + i * 4);
-        out[i] = n;
-        i += 1;
+    for i in 0..out.len() {
+        out[i] = four_at(s, at + i * 4);
     }
 }
 
@@ -119,11 +112,8 @@ fn closings_at(s: &[u8], at: usize) -> [Closing; 32]
 {
     let c = closing_at(s, at);
     let mut out = [c; 32];
-    let mut i = 0;
-    while i < 32 {
-        let n = closing_at(s, at + i * 2);
-        out[i] = n;
-        i += 1;
+    for i in 0..32 {
+        out[i] = closing_at(s, at + i * 2);
     }
     out
 }
@@ -161,11 +151,8 @@ fn messages_at(s: &[u8], at: usize) -> [Message; 64]
 {
     let m = message_at(s, at);
     let mut out = [m; 64];
-    let mut i = 0;
-    while i < 64 {
-        let n = message_at(s, at + i * 32);
-        out[i] = n;
-        i += 1;
+    for i in 0..64 {
+        out[i] = message_at(s, at + i * 32);
     }
     out
 }
@@ -177,11 +164,8 @@ fn orders_at(s: &[u8], at: usize) -> [Order; 16]
 {
     let o = order_at(s, at);
     let mut out = [o; 16];
-    let mut i = 0;
-    while i < 16 {
-        let n = order_at(s, at + i * 410);
-        out[i] = n;
-        i += 1;
+    for i in 0..16 {
+        out[i] = order_at(s, at + i * 410);
     }
     out
 }

@@ -13,11 +13,7 @@ fn put_bytes(out: &mut [u8], at: usize, s: &[u8])
     requires { at + length s.now ≤ length out.old }
     ensures { Put out.old out.new at (length s.now) s.now }
 {
-    let mut i = 0;
-    while i < s.len() {
-        out[at + i] = s[i];
-        i += 1;
-    }
+    out[at..at + s.len()].copy_from_slice(s);
 }
 
 // A byte.
@@ -34,11 +30,9 @@ pub(crate) fn put_number(out: &mut [u8], at: usize, width: usize, value: u64)
     ensures { Put out.old out.new at width (spelled width value) }
 {
     let mut rest = value;
-    let mut i = 0;
-    while i < width {
+    for i in 0..width {
         out[at + i] = (rest % 256) as u8;
-        rest = rest / 256;
-        i += 1;
+        rest /= 256;
     }
 }
 
@@ -63,10 +57,8 @@ fn put_fours(out: &mut [u8], at: usize, s: &[u32])
     requires { at + length s.now * 4 ≤ length out.old }
     ensures { Put out.old out.new at (length s.now * 4) (each (spelled 4) s.now) }
 {
-    let mut i = 0;
-    while i < s.len() {
-        put_four(out, at + i * 4, s[i]);
-        i += 1;
+    for (i, x) in s.iter().enumerate() {
+        put_four(out, at + i * 4, *x);
     }
 }
 
@@ -109,11 +101,8 @@ fn put_closings(out: &mut [u8], at: usize, closings: [Closing; 32])
     requires { at + 64 ≤ length out.old }
     ensures { Put out.old out.new at 64 (each closing_bytes closings) }
 {
-    let mut i = 0;
-    while i < 32 {
-        let c = closings[i];
-        put_closing(out, at + i * 2, c);
-        i += 1;
+    for (i, c) in closings.iter().enumerate() {
+        put_closing(out, at + i * 2, *c);
     }
 }
 
@@ -140,11 +129,8 @@ fn put_messages(out: &mut [u8], at: usize, messages: [Message; 64])
     requires { at + 2048 ≤ length out.old }
     ensures { Put out.old out.new at 2048 (each message_bytes messages) }
 {
-    let mut i = 0;
-    while i < 64 {
-        let m = messages[i];
-        put_message(out, at + i * 32, m);
-        i += 1;
+    for (i, m) in messages.iter().enumerate() {
+        put_message(out, at + i * 32, *m);
     }
 }
 
@@ -153,11 +139,8 @@ fn put_orders(out: &mut [u8], at: usize, orders: [Order; 16])
     requires { at + 6560 ≤ length out.old }
     ensures { Put out.old out.new at 6560 (each order_bytes orders) }
 {
-    let mut i = 0;
-    while i < 16 {
-        let o = orders[i];
-        put_order(out, at + i * 410, o);
-        i += 1;
+    for (i, o) in orders.iter().enumerate() {
+        put_order(out, at + i * 410, *o);
     }
 }
 

@@ -38,7 +38,7 @@ fn goes_on(end: End) -> bool {
 // The higher-numbered of two that are open for one thing; 256 where no two are, or the order has ended.
 fn clash_in(table: &Table, activities: usize, end: End, marks: &[u8; 256]) -> usize {
     if goes_on(end) {
-        return first_conflict(table, activities, marks);
+        return first_conflict(table, activities, marks).unwrap_or(256);
     }
     256
 }

@@ -1,23 +1,22 @@
 -- `acting::taken_order` meets its contract. Assumes nothing.
-use Rattle.acting.proofs.TakeReturns.{takes-beyond, takes-far, takes-receive, takes-asking, takes-arm, takes_none}
+use Rattle.acting.proofs.TakeReturns.{takes-beyond, takes-far, takes-row, takes-asking, takes_none}
 use Rattle.acting.proofs.taken_order.Goals as goal
+use Rattle.acting.proofs.taken_order.Goals.{then-activities-t-via-then-activities-t, then-activities-t-via-else-activities-t+then-t-ge256}
 
-ruleset cases = (takes-beyond, takes-far, takes-receive, takes-asking, takes-arm, takes_none)
+ruleset cases = (takes-beyond, takes-far, takes-row, takes-asking, takes_none)
 
 pub returns-then-activities-t : goal.returns-then-activities-t
-returns-then-activities-t c = search cases
+returns-then-activities-t c =
+    elim c.then-activities-t.branch [
+      | then-activities-t-via-then-activities-t w ↦ search cases
+      | then-activities-t-via-else-activities-t+then-t-ge256 w ↦ search cases
+    ]
 
-pub returns-then-t-ge256 : goal.returns-then-t-ge256
-returns-then-t-ge256 c = search cases
+pub returns-in-2 : goal.returns-in-2
+returns-in-2 c = search cases
 
-pub returns-then-kind-eq-RECEIVE : goal.returns-then-kind-eq-RECEIVE
-returns-then-kind-eq-RECEIVE c = search cases
+pub returns-in-18 : goal.returns-in-18
+returns-in-18 c = search cases
 
-pub returns-then-kind-eq-ASKING_RECEIVE : goal.returns-then-kind-eq-ASKING_RECEIVE
-returns-then-kind-eq-ASKING_RECEIVE c = search cases
-
-pub returns-then-kind-eq-ARM : goal.returns-then-kind-eq-ARM
-returns-then-kind-eq-ARM c = search cases
-
-pub returns : goal.returns
-returns c = search cases
+pub returns-in_default : goal.returns-in_default
+returns-in_default c = search cases

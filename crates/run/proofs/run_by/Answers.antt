@@ -25,12 +25,12 @@ returns-then-a-ne0-clause-is c = search ends
 pub returns-then-a-ne0-clause-told : goal.returns-then-a-ne0-clause-told
 returns-then-a-ne0-clause-told c = search tells
 
-pub offset_bounds-state-slot : goal.offset_bounds-state-slot
-offset_bounds-state-slot c = let within = c.step_by-c.ensures.within c.if-a-ne0.false in
+pub offset_bounds-state-a : goal.offset_bounds-state-a
+offset_bounds-state-a c = let within = c.step_by-c.ensures.within c.if-a-ne0.false in
     search rules
 
-pub bounds-state-slot : goal.bounds-state-slot
-bounds-state-slot c = c.step_by-c.ensures.within c.if-a-ne0.false
+pub bounds-state-a : goal.bounds-state-a
+bounds-state-a c = c.step_by-c.ensures.within c.if-a-ne0.false
 
 pub loop-i-preserved : goal.loop-i-preserved
 loop-i-preserved c = search cases

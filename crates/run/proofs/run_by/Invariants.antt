@@ -6,6 +6,3 @@ use Rattle.run.proofs.run_by.Given as goal
 
 abbrev pub invariant-loop-i : goal.invariant-loop-i
 invariant-loop-i l = Going l.table l.flags l.activities l.choices l.initial.budget l.initial.state l.initial.y l.initial.told l.i l.budget l.state l.y l.told
-
-abbrev pub decreases-loop-i : goal.decreases-loop-i
-decreases-loop-i l = length l.choices - l.i

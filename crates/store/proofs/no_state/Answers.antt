@@ -1,9 +1,7 @@
 -- `store::no_state` meets its contract. Assumes nothing.
-use borrow.Author.Rules.{rules}
-use Rattle.order.specs.State.{no_order}
-use Rattle.machine.specs.State.{no_message, fresh}
+use Rattle.std.proofs.Common.{[], refl}
+use Rattle.machine.proofs.Copied.{fresh-is}
 use Rattle.store.proofs.no_state.Goals as goal
 
 pub returns : goal.returns
-unfolding fresh no_order no_message
-returns c = search rules
+returns c = fresh-is [] refl c.no_order.ensures c.no_message.ensures

@@ -2,12 +2,15 @@
 use mathlib.Core.Path.{sym, ◌∙◌}
 use Rattle.store.proofs.Records.{unpack-is, unpack-mark, unpack-size}
 use Rattle.store.proofs.unpack.Goals as goal
+use Rattle.store.proofs.unpack.Goals.{then-s-ne12748-via-then-s-ne12748, then-s-ne12748-via-else-s-ne12748+then-eight_at-ne3768458767009533773}
 
-pub returns-then-eight_at-eq3768458767009533773 : goal.returns-then-eight_at-eq3768458767009533773
-returns-then-eight_at-eq3768458767009533773 c = unpack-is c.args.s.now c.if-s-eq12748.true (sym c.eight_at.ensures ∙ c.if-eight_at-eq3768458767009533773.true) c.tally_at-tally.ensures c.state_at-state.ensures
-
-pub returns-then-s-eq12748 : goal.returns-then-s-eq12748
-returns-then-s-eq12748 c = unpack-mark c.args.s.now c.if-s-eq12748.true (λ e. c.if-eight_at-eq3768458767009533773.false (c.eight_at.ensures ∙ e)) c.nothing.ensures
+pub returns-then-s-ne12748 : goal.returns-then-s-ne12748
+returns-then-s-ne12748 c =
+    elim c.then-s-ne12748.branch [
+      | then-s-ne12748-via-then-s-ne12748 w ↦ unpack-size c.args.s.now w.if-s-ne12748.true c.nothing.ensures
+      | then-s-ne12748-via-else-s-ne12748+then-eight_at-ne3768458767009533773 w ↦
+          unpack-mark c.args.s.now w.if-s-ne12748.false (λ e. w.if-eight_at-ne3768458767009533773.true (w.eight_at.ensures ∙ e)) c.nothing.ensures
+    ]
 
 pub returns : goal.returns
-returns c = unpack-size c.args.s.now c.if-s-eq12748.false c.nothing-2.ensures
+returns c = unpack-is c.args.s.now c.if-s-ne12748.false (sym c.eight_at.ensures ∙ c.if-eight_at-ne3768458767009533773.false) c.tally_at.ensures c.state_at.ensures

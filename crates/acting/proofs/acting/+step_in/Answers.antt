@@ -1,19 +1,17 @@
 -- `acting::acting::step_in` meet their contracts. Assumes nothing.
-use native.Mathlib.Omega.{arith}
+use Rattle.std.proofs.Common.{◌∙◌}
 use Rattle.acting.proofs.CombineReturns.{step-itself, step-within, step-nowhere}
-use Prim.Native.Nat.{◌-◌}
 use Rattle.acting.proofs.acting.+step_in.Goals as goal
+use Rattle.acting.proofs.acting.+step_in.Goals.{then-child-e, else-child-e}
 
 ruleset cases = (step-itself, step-within, step-nowhere)
 
 pub returns-then-k-t : goal.returns-then-k-t
 returns-then-k-t t c = search cases
 
-pub step_in-r-requires : goal.step_in-r-requires
-step_in-r-requires t c = (omega (arith, c.child_with-child.ensures.after c.if-child-e.true), omega arith)
-
-pub returns-then-child-e : goal.returns-then-child-e
-returns-then-child-e t c = search cases
-
 pub returns : goal.returns
-returns t c = search cases
+returns t c =
+    elim c.if-child-e.branch [
+      | then-child-e w ↦ let s = rw (← w.r-is) at w.step_in-r.ensures in search cases
+      | else-child-e w ↦ let s = w.r-is ∙ w.runs-r.ensures in search cases
+    ]

@@ -6,6 +6,3 @@ ruleset cases = (after-begins, after_none)
 
 pub returns-then-child-e : goal.returns-then-child-e
 returns-then-child-e c = search cases
-
-pub returns : goal.returns
-returns c = search cases

@@ -1,12 +1,8 @@
 -- `acting::acting::child_with` meets its contract. Assumes nothing.
 use Rattle.acting.proofs.ChildReturns.{seeing-starts, seeing-done, seeing-found, seeing-again}
-use Prim.Native.Nat.{◌-◌}
 use Rattle.acting.proofs.acting.child_with.Goals as goal
 
 ruleset cases = (seeing-starts, seeing-done, seeing-found, seeing-again)
-
-pub loop-j-init : goal.loop-j-init
-loop-j-init c = search cases
 
 pub returns-then-t-n : goal.returns-then-t-n
 returns-then-t-n c = search cases

@@ -7,5 +7,5 @@ ruleset cases = (follows-over, follows-runs)
 pub returns-then-is_over : goal.returns-then-is_over
 returns-then-is_over c = search cases
 
-pub returns : goal.returns
-returns c = search cases
+pub returns-else-is_over : goal.returns-else-is_over
+returns-else-is_over c = search cases

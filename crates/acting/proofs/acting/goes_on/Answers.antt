@@ -7,23 +7,23 @@ ruleset cases = (sequence-follows, sequence-stays, flow-joins, flow-stays, repea
 pub returns-then-mark-eq-ACTIVE : goal.returns-then-mark-eq-ACTIVE
 returns-then-mark-eq-ACTIVE c = search cases
 
-pub returns-then-kind-eq-SEQUENCE : goal.returns-then-kind-eq-SEQUENCE
-returns-then-kind-eq-SEQUENCE c = search cases
+pub returns-else-mark-eq-ACTIVE : goal.returns-else-mark-eq-ACTIVE
+returns-else-mark-eq-ACTIVE c = search cases
 
 pub returns-then-mark-eq-ACTIVE-2 : goal.returns-then-mark-eq-ACTIVE-2
 returns-then-mark-eq-ACTIVE-2 c = search cases
 
-pub returns-then-kind-eq-FLOW : goal.returns-then-kind-eq-FLOW
-returns-then-kind-eq-FLOW c = search cases
+pub returns-else-mark-eq-ACTIVE-2 : goal.returns-else-mark-eq-ACTIVE-2
+returns-else-mark-eq-ACTIVE-2 c = search cases
 
 pub returns-then-mark-eq-INSIDE : goal.returns-then-mark-eq-INSIDE
 returns-then-mark-eq-INSIDE c = search cases
 
-pub returns-then-kind-eq-REPEAT : goal.returns-then-kind-eq-REPEAT
-returns-then-kind-eq-REPEAT c = search cases
+pub returns-else-mark-eq-INSIDE : goal.returns-else-mark-eq-INSIDE
+returns-else-mark-eq-INSIDE c = search cases
 
 pub returns-then-mark-eq-INSIDE-2 : goal.returns-then-mark-eq-INSIDE-2
 returns-then-mark-eq-INSIDE-2 c = search cases
 
-pub returns : goal.returns
-returns c = search cases
+pub returns-else-mark-eq-INSIDE-2 : goal.returns-else-mark-eq-INSIDE-2
+returns-else-mark-eq-INSIDE-2 c = search cases

@@ -7,11 +7,11 @@ ruleset cases = (in-through, in-body, in-fault, in-undo)
 pub returns-then-goes_through : goal.returns-then-goes_through
 returns-then-goes_through c = search cases
 
-pub returns-then-t-s : goal.returns-then-t-s
-returns-then-t-s c = search cases
+pub returns-else-goes_through : goal.returns-else-goes_through
+returns-else-goes_through c = search cases
 
 pub returns-then-t-undo_row : goal.returns-then-t-undo_row
 returns-then-t-undo_row c = search cases
 
-pub returns : goal.returns
-returns c = search cases
+pub returns-else-t-undo_row : goal.returns-else-t-undo_row
+returns-else-t-undo_row c = search cases

@@ -7,5 +7,5 @@ ruleset cases = (joins-over, joins-waits)
 pub returns-then-quiet : goal.returns-then-quiet
 returns-then-quiet c = search cases
 
-pub returns : goal.returns
-returns c = search cases
+pub returns-else-quiet : goal.returns-else-quiet
+returns-else-quiet c = search cases

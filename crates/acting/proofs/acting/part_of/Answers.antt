@@ -7,5 +7,5 @@ ruleset cases = (part-own, part-around)
 pub returns-then-is_scope : goal.returns-then-is_scope
 returns-then-is_scope c = search cases
 
-pub returns : goal.returns
-returns c = search cases
+pub returns-else-is_scope : goal.returns-else-is_scope
+returns-else-is_scope c = search cases

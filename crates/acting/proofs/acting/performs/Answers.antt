@@ -4,8 +4,5 @@ use Rattle.acting.proofs.acting.performs.Goals as goal
 
 ruleset cases = (performs-raise, performs-own)
 
-pub returns-then-raise : goal.returns-then-raise
-returns-then-raise c = search cases
-
-pub returns : goal.returns
-returns c = search cases
+pub returns-else-raise : goal.returns-else-raise
+returns-else-raise c = search cases

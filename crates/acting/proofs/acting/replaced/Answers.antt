@@ -1,17 +1,11 @@
 -- `acting::acting::replaced` meets its contract. Assumes nothing.
-use Rattle.acting.proofs.CombineReturns.{replaced-receive, replaced-asking, replaced-arm, replaced-other}
+use Rattle.acting.proofs.CombineReturns.{replaced-one, replaced-other}
 use Rattle.acting.proofs.acting.replaced.Goals as goal
 
-ruleset cases = (replaced-receive, replaced-asking, replaced-arm, replaced-other)
+ruleset cases = (replaced-one, replaced-other)
 
-pub returns-then-kind-eq-RECEIVE : goal.returns-then-kind-eq-RECEIVE
-returns-then-kind-eq-RECEIVE c = search cases
+pub returns-in-2 : goal.returns-in-2
+returns-in-2 c = search cases
 
-pub returns-then-kind-eq-ASKING_RECEIVE : goal.returns-then-kind-eq-ASKING_RECEIVE
-returns-then-kind-eq-ASKING_RECEIVE c = search cases
-
-pub returns-then-kind-eq-ARM : goal.returns-then-kind-eq-ARM
-returns-then-kind-eq-ARM c = search cases
-
-pub returns : goal.returns
-returns c = search cases
+pub returns-in_default : goal.returns-in_default
+returns-in_default c = search cases

@@ -4,20 +4,14 @@ use Rattle.acting.proofs.judging.settled.Goals as goal
 
 ruleset cases = (settling-starts, settling-ended, settling-clear, settling-again, settling-less, settling-last)
 
-pub loop-o-init : goal.loop-o-init
-loop-o-init c = search cases
+pub returns-in_default : goal.returns-in_default
+returns-in_default c = search cases
 
-pub returns-then-k-ge256 : goal.returns-then-k-ge256
-returns-then-k-ge256 c = search cases
-
-pub loop-o-smaller : goal.loop-o-smaller
-loop-o-smaller c = search cases
+pub returns-then-not-is_lower : goal.returns-then-not-is_lower
+returns-then-not-is_lower c = search cases
 
 pub loop-o-preserved : goal.loop-o-preserved
 loop-o-preserved c = search cases
 
-pub returns-then-goes_on : goal.returns-then-goes_on
-returns-then-goes_on c = search cases
-
-pub returns-in-loop-o : goal.returns-in-loop-o
-returns-in-loop-o c = search cases
+pub returns : goal.returns
+returns c = search cases

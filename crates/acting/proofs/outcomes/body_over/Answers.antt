@@ -7,5 +7,5 @@ ruleset cases = (body-done, body-looks)
 pub returns-then-mark_of-eq-ACTIVE : goal.returns-then-mark_of-eq-ACTIVE
 returns-then-mark_of-eq-ACTIVE c = search cases
 
-pub returns : goal.returns
-returns c = search cases
+pub returns-else-mark_of-eq-ACTIVE : goal.returns-else-mark_of-eq-ACTIVE
+returns-else-mark_of-eq-ACTIVE c = search cases

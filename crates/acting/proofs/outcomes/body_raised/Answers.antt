@@ -7,5 +7,5 @@ ruleset cases = (raised-faults, raised-absorbed)
 pub returns-then-is_open : goal.returns-then-is_open
 returns-then-is_open c = search cases
 
-pub returns : goal.returns
-returns c = search cases
+pub returns-else-is_open : goal.returns-else-is_open
+returns-else-is_open c = search cases

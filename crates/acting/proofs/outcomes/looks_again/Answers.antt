@@ -10,5 +10,5 @@ returns-then-state_of-eq-FAULTY c = search cases
 pub returns-then-mark_of-eq-HALTED : goal.returns-then-mark_of-eq-HALTED
 returns-then-mark_of-eq-HALTED c = search cases
 
-pub returns : goal.returns
-returns c = search cases
+pub returns-else-mark_of-eq-HALTED : goal.returns-else-mark_of-eq-HALTED
+returns-else-mark_of-eq-HALTED c = search cases

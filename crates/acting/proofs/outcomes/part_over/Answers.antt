@@ -7,5 +7,5 @@ ruleset cases = (part-ends, part-not)
 pub returns-then-state_of-eq-HANDLING : goal.returns-then-state_of-eq-HANDLING
 returns-then-state_of-eq-HANDLING c = search cases
 
-pub returns : goal.returns
-returns c = search cases
+pub returns-else-state_of-eq-HANDLING : goal.returns-else-state_of-eq-HANDLING
+returns-else-state_of-eq-HANDLING c = search cases

@@ -10,5 +10,5 @@ returns-then-state_of-eq-UNDOING c = search cases
 pub returns-then-mark_of-eq-WITHDRAWING : goal.returns-then-mark_of-eq-WITHDRAWING
 returns-then-mark_of-eq-WITHDRAWING c = search cases
 
-pub returns : goal.returns
-returns c = search cases
+pub returns-else-mark_of-eq-WITHDRAWING : goal.returns-else-mark_of-eq-WITHDRAWING
+returns-else-mark_of-eq-WITHDRAWING c = search cases

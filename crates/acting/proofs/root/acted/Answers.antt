@@ -7,5 +7,5 @@ ruleset cases = (step-body, step-fault)
 pub returns-then-t-fault : goal.returns-then-t-fault
 returns-then-t-fault c = search cases
 
-pub returns : goal.returns
-returns c = search cases
+pub returns-else-t-fault : goal.returns-else-t-fault
+returns-else-t-fault c = search cases

@@ -1,14 +1,14 @@
 -- `acting::root::moved_to` meets its contract. Assumes nothing.
-use Rattle.acting.proofs.RootReturns.{moved-well, moved-handled, moved-failed, moved-left, moved_on, moved-undone, moved-undo_raising}
+use Rattle.acting.proofs.RootReturns.{moved-well, moved-handled, moved-failed, moved-left, moved_on, moved-still}
 use Rattle.acting.proofs.root.moved_to.Goals as goal
 
-ruleset cases = (moved-well, moved-handled, moved-failed, moved-left, moved_on, moved-undone, moved-undo_raising)
+ruleset cases = (moved-well, moved-handled, moved-failed, moved-left, moved_on, moved-still)
 
-pub returns-then-o-eq-DONE : goal.returns-then-o-eq-DONE
-returns-then-o-eq-DONE c = search cases
+pub returns-then-order-eq-DONE : goal.returns-then-order-eq-DONE
+returns-then-order-eq-DONE c = search cases
 
-pub returns-else-o-eq-DONE : goal.returns-else-o-eq-DONE
-returns-else-o-eq-DONE c = search cases
+pub returns-else-order-eq-DONE : goal.returns-else-order-eq-DONE
+returns-else-order-eq-DONE c = search cases
 
 pub returns-in-Over : goal.returns-in-Over
 returns-in-Over c = search cases
@@ -21,6 +21,3 @@ returns-in-Leaving c = search cases
 
 pub returns-in-Undone : goal.returns-in-Undone
 returns-in-Undone c = search cases
-
-pub returns-in-UndoRaising : goal.returns-in-UndoRaising
-returns-in-UndoRaising c = search cases

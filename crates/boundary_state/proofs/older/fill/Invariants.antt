@@ -6,6 +6,3 @@ use Rattle.boundary_state.proofs.older.fill.Given as goal
 
 abbrev pub invariant-loop-i : goal.invariant-loop-i
 invariant-loop-i l = Placing (byte_of l.old l.table) 12476 l.state l.i
-
-abbrev pub decreases-loop-i : goal.decreases-loop-i
-decreases-loop-i l = 12476 - l.i

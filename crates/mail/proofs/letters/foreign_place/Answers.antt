@@ -1,22 +1,18 @@
--- `mail::letters::foreign_place` meets its contract. The loop's invariant: the messages before i are for partners of the plan. Assumes nothing.
-use borrow.Author.Rules.{rules}
-use Prim.Native.Nat.{◌-◌}
-use Rattle.machine.proofs.Moved.{seeking-starts, partner-below, seeking-none, seeking-found, seeking-on}
+-- `mail::letters::foreign_place` meets its contract. The loop's invariant: the messages passed are for partners of the plan. Assumes nothing.
+use native.Mathlib.Omega.{arith}
+use Rattle.machine.proofs.Moved.{partner-below, seeking-none, seeking-found, seeking-on}
 use Rattle.mail.proofs.letters.foreign_place.Goals as goal
 
-ruleset cases = (seeking-starts, partner-below, seeking-none, seeking-found, seeking-on)
-
-pub loop-i-init : goal.loop-i-init
-loop-i-init c = seeking-starts _ _ _ (search rules) c.well_formed.0.1.0.1
-
 pub heard-requires : goal.heard-requires
-heard-requires c = search cases
+heard-requires c = partner-below c.loop-i.invariant _ c.requires.1 (omega (arith, c.loop-i-test.true, c.loop-i.invariant.long))
 
 pub returns-then-not-heard : goal.returns-then-not-heard
-returns-then-not-heard c = search cases
+returns-then-not-heard c =
+    seeking-found c.loop-i.invariant _ c.requires.1 (omega (arith, c.loop-i-test.true, c.loop-i.invariant.long)) c.heard.ensures c.if-not-heard.true
 
 pub loop-i-preserved : goal.loop-i-preserved
-loop-i-preserved c = search cases
+loop-i-preserved c =
+    seeking-on c.loop-i.invariant _ c.requires.1 (omega (arith, c.loop-i-test.true, c.loop-i.invariant.long)) c.heard.ensures c.if-not-heard.false
 
 pub returns : goal.returns
-returns c = search cases
+returns c = seeking-none c.loop-i.invariant (omega (arith, c.loop-i-test.false, c.loop-i.invariant.long))

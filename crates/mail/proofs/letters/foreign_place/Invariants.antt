@@ -5,7 +5,4 @@ use Rattle.machine.proofs.Moved.{Seeking}
 use Rattle.mail.proofs.letters.foreign_place.Given as goal
 
 abbrev pub invariant-loop-i : goal.invariant-loop-i
-invariant-loop-i l = Seeking l.table (take l.waiting l.messages) l.waiting l.i
-
-abbrev pub decreases-loop-i : goal.decreases-loop-i
-decreases-loop-i l = l.waiting - l.i
+invariant-loop-i l = Seeking l.table (take l.waiting l.fn.messages) l.waiting l.i

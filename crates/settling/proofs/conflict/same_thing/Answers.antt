@@ -1,18 +1,6 @@
 -- `settling::conflict::same_thing` meets its contract. Assumes nothing.
-use Prim.Native.Nat.{◌-◌}
-use Rattle.settling.proofs.ConflictReturns.{equal-starts, equal-again, equal-differs, equal-done}
+use Rattle.settling.proofs.ConflictReturns.{thing-is}
 use Rattle.settling.proofs.conflict.same_thing.Goals as goal
 
-ruleset cases = (equal-starts, equal-again, equal-differs, equal-done)
-
-pub loop-i-init : goal.loop-i-init
-loop-i-init c = search cases
-
-pub returns-then-table-j : goal.returns-then-table-j
-returns-then-table-j c = search cases
-
-pub loop-i-preserved : goal.loop-i-preserved
-loop-i-preserved c = search cases
-
 pub returns : goal.returns
-returns c = search cases
+returns c = thing-is c.args.table.now c.args.j c.args.k c.told-table c.requires.0 c.requires.1 c.eq.result c.eq.ensures

@@ -1,5 +1,4 @@
 -- `settling::ranks::is_lower` meets its contract. Assumes nothing.
-use Prim.Native.Nat.{◌-◌}
 use Rattle.settling.proofs.RankReturns.{lower-root, comparing-starts, comparing-again, comparing-tells, comparing-done}
 use Rattle.settling.proofs.ranks.is_lower.Goals as goal
 

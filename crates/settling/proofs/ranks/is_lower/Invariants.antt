@@ -1,10 +1,6 @@
 -- `settling::ranks::is_lower` meets its contract. Assumes nothing.
-use Prim.Native.Nat.{◌-◌}
 use Rattle.settling.proofs.RankReturns.{Comparing}
 use Rattle.settling.proofs.ranks.is_lower.Given as goal
 
 abbrev pub invariant-loop-k : goal.invariant-loop-k
 invariant-loop-k l = Comparing l.table l.activities l.before l.marks l.after l.others l.k
-
-abbrev pub decreases-loop-k : goal.decreases-loop-k
-decreases-loop-k l = l.rows - l.k

@@ -8,7 +8,7 @@ pub loop-i-init : goal.loop-i-init
 loop-i-init c = reading-starts _ _ _ _ _ _ refl
 
 pub loop-i-preserved : goal.loop-i-preserved
-loop-i-preserved c = reading-more c.loop-i.invariant c.loop-i-test.true c.order_at-n.ensures
+loop-i-preserved c = reading-more c.loop-i.invariant c.loop-i-test.true c.order_at.ensures
 
 pub returns : goal.returns
 returns c = reading-ends c.loop-i.invariant c.loop-i-test.false

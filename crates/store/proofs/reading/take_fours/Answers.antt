@@ -9,7 +9,7 @@ pub loop-i-init : goal.loop-i-init
 loop-i-init c = reading-starts _ _ _ _ _ _ refl
 
 pub loop-i-preserved : goal.loop-i-preserved
-loop-i-preserved c = reading-more c.loop-i.invariant (omega (arith, c.loop-i.invariant.filling.long)) c.four_at-n.ensures
+loop-i-preserved c = reading-more c.loop-i.invariant (omega (arith, c.loop-i.invariant.filling.long)) c.four_at.ensures
 
 pub returns : goal.returns
 returns c = reading-ends c.loop-i.invariant (omega (arith, c.loop-i.invariant.filling.long))

@@ -7,6 +7,3 @@ use Rattle.store.proofs.reading.take_fours.Given as goal
 
 abbrev pub invariant-loop-i : goal.invariant-loop-i
 invariant-loop-i l = Reading (number_in 4) 4 (length l.initial.out) l.s l.at l.out l.i
-
-abbrev pub decreases-loop-i : goal.decreases-loop-i
-decreases-loop-i l = length l.initial.out - l.i

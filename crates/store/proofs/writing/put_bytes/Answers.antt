@@ -1,15 +1,10 @@
 -- `store::writing::put_bytes` meets its contract. Assumes nothing.
-use Rattle.store.proofs.Puts.{copying-starts, copying-more, copying-ends}
-use Prim.Native.Nat.{◌-◌}
+use Rattle.std.proofs.Common.{length, refl, arith}
+use Rattle.std.proofs.lemmas.Slice.{put_mid-paste}
+use Rattle.store.proofs.Puts.{put_pasted}
 use Rattle.store.proofs.writing.put_bytes.Goals as goal
 
-ruleset cases = (copying-starts, copying-more, copying-ends)
-
-pub loop-i-init : goal.loop-i-init
-loop-i-init c = search cases
-
-pub loop-i-preserved : goal.loop-i-preserved
-loop-i-preserved c = search cases
-
 pub returns : goal.returns
-returns c = search cases
+returns c =
+    put_pasted _ _ _ c.requires
+    (put_mid-paste _ _ _ _ c.args.s.now (length c.args.s.now) c.copy_from_slice.ensures.after (omega arith) refl)

@@ -5,7 +5,4 @@ use Rattle.store.specs.Packed.{closing_bytes}
 use Rattle.store.proofs.writing.put_closings.Given as goal
 
 abbrev pub invariant-loop-i : goal.invariant-loop-i
-invariant-loop-i l = Writing closing_bytes 2 l.initial.out l.out l.at l.closings l.i
-
-abbrev pub decreases-loop-i : goal.decreases-loop-i
-decreases-loop-i l = 32 - l.i
+invariant-loop-i l = Writing closing_bytes 2 l.initial.out l.out l.at l.fn.closings l.i

@@ -7,6 +7,3 @@ use Rattle.store.proofs.writing.put_fours.Given as goal
 
 abbrev pub invariant-loop-i : goal.invariant-loop-i
 invariant-loop-i l = Writing (spelled 4) 4 l.initial.out l.out l.at l.s l.i
-
-abbrev pub decreases-loop-i : goal.decreases-loop-i
-decreases-loop-i l = length l.s - l.i

@@ -5,7 +5,4 @@ use Rattle.store.specs.Packed.{message_bytes}
 use Rattle.store.proofs.writing.put_messages.Given as goal
 
 abbrev pub invariant-loop-i : goal.invariant-loop-i
-invariant-loop-i l = Writing message_bytes 32 l.initial.out l.out l.at l.messages l.i
-
-abbrev pub decreases-loop-i : goal.decreases-loop-i
-decreases-loop-i l = 64 - l.i
+invariant-loop-i l = Writing message_bytes 32 l.initial.out l.out l.at l.fn.messages l.i

@@ -5,7 +5,4 @@ use Rattle.store.specs.Packed.{order_bytes}
 use Rattle.store.proofs.writing.put_orders.Given as goal
 
 abbrev pub invariant-loop-i : goal.invariant-loop-i
-invariant-loop-i l = Writing order_bytes 410 l.initial.out l.out l.at l.orders l.i
-
-abbrev pub decreases-loop-i : goal.decreases-loop-i
-decreases-loop-i l = 16 - l.i
+invariant-loop-i l = Writing order_bytes 410 l.initial.out l.out l.at l.fn.orders l.i
