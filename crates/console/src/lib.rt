@@ -132,7 +132,9 @@ pub fn answer(
             names,
             out,
         ),
-        Ok(Command::Numbered { what, k }) => answer_numbered(desk, what, k, number, bytes, names, out),
+        Ok(Command::Numbered { what, k }) => answer_numbered(
+            desk, what, k, number, bytes, names, out,
+        ),
         Ok(Command::Listed { what, from }) => answer_listed(desk, what, line, from, number, out),
     }
 }

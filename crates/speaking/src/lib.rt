@@ -10,7 +10,7 @@ mod moving;
 mod posting;
 mod viewing;
 
-use commands::{Alone, Command, Listed, Numbered};
+use commands::{Alone, Command, Listed, Numbered, Trouble};
 use drawing::Out;
 pub use keeping::{is_at_risk, put_risk, written};
 use papers::Desk;
@@ -90,7 +90,9 @@ fn told(
         Ok(Command::Numbered { what, k }) => answer_numbered(
             desk, what, k, line, number, bytes, names, out,
         ),
-        Ok(Command::Listed { what, from }) => answer_listed(desk, what, line, from, number, names, out),
+        Ok(Command::Listed { what, from }) => answer_listed(
+            desk, what, line, from, number, names, out,
+        ),
     }
 }
 
@@ -134,7 +136,9 @@ fn phrased(
         Ok(Some(What::Go { steps })) => moving::go(desk, steps, names, out),
         Ok(Some(What::CollectAll)) => moving::collect_all(desk, names, out),
         Ok(Some(What::Drop { place })) => moving::drop_at(desk, place, names, out),
-        Ok(Some(What::OrderBy { variable, value })) => finding::order_by(desk, variable, value, number, names, out),
+        Ok(Some(What::OrderBy { variable, value })) => finding::order_by(
+            desk, variable, value, number, names, out,
+        ),
         Ok(Some(What::Write) | None) => desk,
         Err(why) => console::wrong(desk, number, why, out),
     }
