@@ -32,6 +32,7 @@ impl Known {
         }
     }
 
+    // Whether a number is among these.
     fn has(self, x: usize) -> bool
         ensures { result ≡ among x (backwards self.count self.numbers) }
     {
