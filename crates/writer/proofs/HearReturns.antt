@@ -10,7 +10,6 @@ use lib.ListN.{length}
 use Rattle.plan.specs.Agree.{asked_own, span_of, asked_in, asked_all, asked_from, judged}
 use Rattle.plan.specs.Found.{Found, refused, found, and_then}
 use Rattle.plan.specs.Heard.{Noted, noted, blank_heard, heard_all, differing}
-use Rattle.plan.specs.Numbering.{backwards}
 use Rattle.plan.specs.Read.{Head, is_scope_code, many_in, Numbered, also_numbered}
 use Rattle.plan.specs.Spell.{gaps_of}
 use Rattle.plan.specs.Tree.{Own, scope, kind, numbers_of, Act, act, Acts, none, more, Plan, count}
