@@ -10,7 +10,6 @@ use lib.ListN.{length}
 use Rattle.plan.specs.Agree.{asked_own, span_of, asked_in, asked_all, asked_from, judged}
 use Rattle.plan.specs.Found.{Found, refused, found, and_then}
 use Rattle.plan.specs.Heard.{Noted, noted, blank_heard, heard_all, differing}
-use Rattle.plan.specs.Numbering.{backwards}
 use Rattle.plan.specs.Read.{Head, is_scope_code, many_in, Numbered, also_numbered}
 use Rattle.plan.specs.Spell.{gaps_of}
 use Rattle.plan.specs.Tree.{Own, scope, kind, numbers_of, Act, act, Acts, none, more, Plan, count}
@@ -188,17 +187,17 @@ module _ (arm : Bool) (depth vars : ℕ) (cs t : List ℕ) (handler : Bool) (n r
 
 -- `numbered_scope_at`
 module _ (depth vars : ℕ) (cs t : List ℕ) (handler : Bool) (n r : ℕ) {body : Out} (o : Ok body ≡ out_for (n + 1) (node_at false depth vars cs t handler (n + 1) (r + 1)))
-    {f : Field} (b : Ok f ≡ field_for (count_at t body.next)) (zs : List ℕ) {rest : Out}
-    (d : Ok rest ≡ out_numbered_for body.count (numbered_at (node_at false depth vars cs t) t f.value (backwards 0 zs) body.count f.next)) where
+    {f : Field} (b : Ok f ≡ field_for (count_at t body.next)) {zs : List ℕ} (none-read : zs ≡ []) {rest : Out}
+    (d : Ok rest ≡ out_numbered_for body.count (numbered_at (node_at false depth vars cs t) t f.value zs body.count f.next)) where
   pub whole-scope : {s v u : Noted} → ActHears (node_at false depth vars cs t handler (n + 1) (r + 1)) (r + 1) s v
-      → NumberedHears (numbered_at (node_at false depth vars cs t) t f.value (backwards 0 zs) body.count f.next) f.next v u
+      → NumberedHears (numbered_at (node_at false depth vars cs t) t f.value zs body.count f.next) f.next v u
       → ActHears (numbered_scope_at (node_at false depth vars cs t) t handler n (r + 1)) r s u
   whole-scope {s} {v} {u} h g =
       let x = body-read depth vars cs t handler n r o in
-      let y = parts-got body.count (numbered_at (node_at false depth vars cs t) t f.value (backwards 0 zs) body.count f.next) d in
-      let w = (node-numbered depth vars cs t f.value (backwards 0 zs) body.count f.next).holds y.is in
+      let y = parts-got body.count (numbered_at (node_at false depth vars cs t) t f.value zs body.count f.next) d in
+      let w = (node-numbered depth vars cs t f.value zs body.count f.next).holds y.is in
       let m = (count-stands t body.next).holds (field_is (count_at t body.next) f b) in
-      act-hears _ r s u (count-opened depth vars cs t handler n r o b zs ∙ then_found _ _ y.is)
+      act-hears _ r s u (count-opened depth vars cs t handler n r o b none-read ∙ then_found _ _ y.is)
       (scope-heard t x.a y.c r f.value body.next f.next s v u m.some w.many w.parts ((node-stands false depth vars cs t handler (n + 1) (r + 1)).holds x.is) (stands-ends m.row).0
       (act-heard _ (r + 1) s v x.is h) (parts-heard _ f.next v u y.is g))
 
@@ -211,7 +210,7 @@ module _ (depth vars : ℕ) (cs t : List ℕ) (left : ℕ) (known : List ℕ) (n
       parts-hear _ r s u (last-is depth vars cs t left known n r e o) (acts-heard _ r s u (last-read depth vars cs t left known n r e o).is h)
 
   module _ (z : left ≡ 0 → ⊥) {f : Field} (o : Ok f ≡ field_for (fault_number_at t known r)) {part : Out} (b : Ok part ≡ out_for n (node_at false depth vars cs t true n f.next))
-      (k : ℕ) (zs : List ℕ) (i : backwards (k + 1) zs ≡ f.value ∷ known) where
+      {more-known : List ℕ} (i : more-known ≡ f.value ∷ known) where
     more_parts : (g : Found Numbered) {v : Noted} → numbered_at (node_at false depth vars cs t) t left known n r ≡ and_then g (λ c next. found (also_numbered f.value (part-read depth vars cs t left known n r z o b).a c) next)
         → v ≡ heard_all (asked_in in_rows (part-read depth vars cs t left known n r z o b).a f.next) s → NumberedHears g part.next v u
         → NumberedHears (numbered_at (node_at false depth vars cs t) t left known n r) r s u
@@ -224,7 +223,7 @@ module _ (depth vars : ℕ) (cs t : List ℕ) (left : ℕ) (known : List ℕ) (n
         (part-heard t f.value y.a c r f.next part.next s v u (stands-ends m.row).0 ((node-stands false depth vars cs t true n f.next).holds y.is) h w.heard)
 
     pub some_more : {v : Noted} → ActHears (node_at false depth vars cs t true n f.next) f.next s v
-        → NumberedHears (numbered_at (node_at false depth vars cs t) t (left - 1) (backwards (k + 1) zs) part.count part.next) part.next v u
+        → NumberedHears (numbered_at (node_at false depth vars cs t) t (left - 1) more-known part.count part.next) part.next v u
         → NumberedHears (numbered_at (node_at false depth vars cs t) t left known n r) r s u
     some_more h w =
         let y = part-read depth vars cs t left known n r z o b in

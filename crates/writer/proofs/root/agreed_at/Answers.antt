@@ -8,8 +8,8 @@ pub returns-in_err-next : goal.returns-in_err-next
 unfolding agreed_at
 returns-in_err-next c = passed-on _ _ _ _ c.in_err-next.ensures.is c.from_residual.ensures.1
 
-pub returns-then-differs-ne0 : goal.returns-then-differs-ne0
-returns-then-differs-ne0 c = agreed-differs _ c.in_ok-next.ensures.is c.in_ok-next.ensures.hears c.if-differs-ne0.true
+pub returns-then-heard-ne0 : goal.returns-then-heard-ne0
+returns-then-heard-ne0 c = agreed-differs _ c.in_ok-next.ensures.is c.in_ok-next.ensures.hears c.if-heard-ne0.true
 
 pub returns : goal.returns
-returns c = agreed-yes _ c.in_ok-next.ensures.is c.in_ok-next.ensures.hears c.if-differs-ne0.false
+returns c = agreed-yes _ c.in_ok-next.ensures.is c.in_ok-next.ensures.hears c.if-heard-ne0.false

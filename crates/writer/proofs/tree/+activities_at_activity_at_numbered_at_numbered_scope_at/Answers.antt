@@ -1,5 +1,6 @@
 -- Checking an activity, a list of activities and a scope with fault parts by number meet their contracts. Assumes nothing.
-use Rattle.writer.proofs.TreeReturns.{acts-none, acts-no-first, acts-no-rest, acts-more, act-no-own, act-no-within, act-whole, act-scope, scope-no-body, scope-no-count, scope-no-parts, scope-whole, parts-no-last, parts_last, parts-no-number, parts-no-part, parts_more, own-next-fits, own-few, own-falls, scope-few, scope-falls}
+use native.Mathlib.Omega.{arith}
+use Rattle.writer.proofs.TreeReturns.{acts-none, acts-no-first, acts-no-rest, acts-more, act-no-own, act-no-within, act-whole, act-scope, scope-no-body, scope-no-count, scope-no-parts, scope-whole, parts-no-last, parts_last, parts-no-number, parts-no-part, parts_more, own-next-fits, own-few, own-falls, scope-few, scope-falls, count-falls}
 use Rattle.writer.proofs.HearReturns.{act-silent, acts-silent, parts-silent, all_none, all_more, one-whole, one-scope, whole-scope, some-last, some_more, own-there}
 use Rattle.writer.proofs.tree.+activities_at_activity_at_numbered_at_numbered_scope_at.Goals as goal
 
@@ -94,10 +95,13 @@ pub numbered_at-returns-in_err-part-clause-hear : goal.numbered_at-returns-in_er
 numbered_at-returns-in_err-part-clause-hear t c = parts-silent _ _ _ _ _ (numbered_at-returns-in_err-part-clause-is t c) c.from_residual-in_err-part.ensures.0
 
 pub numbered_at-returns-clause-is : goal.numbered_at-returns-clause-is
-numbered_at-returns-clause-is t c = parts_more _ _ _ _ _ _ _ _ c.if-left-eq0.false c.in_ok-number.ensures c.in_ok-part.ensures.is _ _ c.with_number.ensures c.numbered_at.ensures.is
+numbered_at-returns-clause-is t c = parts_more _ _ _ _ _ _ _ _ c.if-left-eq0.false c.in_ok-number.ensures c.in_ok-part.ensures.is c.and.ensures.last c.numbered_at.ensures.is
 
 pub numbered_at-returns-clause-hear : goal.numbered_at-returns-clause-hear
-numbered_at-returns-clause-hear t c = some_more _ _ _ _ _ _ _ _ _ _ c.if-left-eq0.false c.in_ok-number.ensures c.in_ok-part.ensures.is _ _ c.with_number.ensures c.in_ok-part.ensures.hears c.numbered_at.ensures.hear
+numbered_at-returns-clause-hear t c = some_more _ _ _ _ _ _ _ _ _ _ c.if-left-eq0.false c.in_ok-number.ensures c.in_ok-part.ensures.is c.and.ensures.last c.in_ok-part.ensures.hears c.numbered_at.ensures.hear
+
+pub numbered_scope_at-numbered_at-requires : goal.numbered_scope_at-numbered_at-requires
+numbered_scope_at-numbered_at-requires t c = let f = c.in_ok-parts.ensures.fits in let e = c.none.ensures.empty in (search count-falls, omega (arith, f))
 
 pub numbered_scope_at-returns-in_err-body-clause-is : goal.numbered_scope_at-returns-in_err-body-clause-is
 numbered_scope_at-returns-in_err-body-clause-is t c = scope-no-body _ _ _ _ _ _ _ c.in_err-body.ensures.is c.from_residual.ensures.1
@@ -112,13 +116,13 @@ pub numbered_scope_at-returns-in_err-parts-clause-hears : goal.numbered_scope_at
 numbered_scope_at-returns-in_err-parts-clause-hears t c = act-silent _ _ _ _ _ (numbered_scope_at-returns-in_err-parts-clause-is t c) c.from_residual-in_err-parts.ensures.0
 
 pub numbered_scope_at-returns-in_err-rest-clause-is : goal.numbered_scope_at-returns-in_err-rest-clause-is
-numbered_scope_at-returns-in_err-rest-clause-is t c = scope-no-parts _ _ _ _ _ _ _ c.in_ok-body.ensures.is c.in_ok-parts.ensures.is _ c.in_err-rest.ensures.is c.from_residual-in_err-rest.ensures.1
+numbered_scope_at-returns-in_err-rest-clause-is t c = scope-no-parts _ _ _ _ _ _ _ c.in_ok-body.ensures.is c.in_ok-parts.ensures.is c.none.ensures.none c.in_err-rest.ensures.is c.from_residual-in_err-rest.ensures.1
 
 pub numbered_scope_at-returns-in_err-rest-clause-hears : goal.numbered_scope_at-returns-in_err-rest-clause-hears
 numbered_scope_at-returns-in_err-rest-clause-hears t c = act-silent _ _ _ _ _ (numbered_scope_at-returns-in_err-rest-clause-is t c) c.from_residual-in_err-rest.ensures.0
 
 pub numbered_scope_at-returns-clause-is : goal.numbered_scope_at-returns-clause-is
-numbered_scope_at-returns-clause-is t c = scope-whole _ _ _ _ _ _ _ c.in_ok-body.ensures.is c.in_ok-parts.ensures.is _ c.in_ok-rest.ensures.is
+numbered_scope_at-returns-clause-is t c = scope-whole _ _ _ _ _ _ _ c.in_ok-body.ensures.is c.in_ok-parts.ensures.is c.none.ensures.none c.in_ok-rest.ensures.is
 
 pub numbered_scope_at-returns-clause-hears : goal.numbered_scope_at-returns-clause-hears
-numbered_scope_at-returns-clause-hears t c = whole-scope _ _ _ _ _ _ _ c.in_ok-body.ensures.is c.in_ok-parts.ensures.is _ c.in_ok-rest.ensures.is c.in_ok-body.ensures.hears c.in_ok-rest.ensures.hear
+numbered_scope_at-returns-clause-hears t c = whole-scope _ _ _ _ _ _ _ c.in_ok-body.ensures.is c.in_ok-parts.ensures.is c.none.ensures.none c.in_ok-rest.ensures.is c.in_ok-body.ensures.hears c.in_ok-rest.ensures.hear
