@@ -10,6 +10,7 @@ use denote.Shadow.{shadow}
 use denote.RattleType.{RattleType}
 use denote.Struct.Declared.{row}
 use denote.Struct.Field.{u8-field, u32-field}
+use Rattle.order.specs.declared.Closing.{Closing}
 use Rattle.order.specs.declared.Order.{Order}
 use Rattle.order.specs.contracts.Closing as closing
 use Rattle.order.specs.contracts.Order as order

@@ -1,6 +1,6 @@
 -- Meaning: which steps an order awaits. Assumes nothing: these are definitions.
 use Rattle.std.specs.Prelude.{ℕ, ◌+◌, Bool, true, false, cond, ◌&&◌, List, [], ◌∷◌, ◌++◌, get_or, ltb, eqb}
-use Rattle.plan.specs.Tree.{To, From, from_partner, Own, empty, send, receive, set as setting, raise, leave, choose, repeat, sequence, flow, pick, scope, arm, kind, is_scope, is_pick, is_arm, Act, act, Acts, none, more, Plan, size}
+use Rattle.plan.specs.Tree.{Exp, To, From, from_partner, Own, empty, send, receive, set as setting, raise, leave, choose, repeat, sequence, flow, pick, scope, arm, kind, is_scope, is_pick, is_arm, Act, act, Acts, none, more, Plan, size}
 use Rattle.order.specs.declared.Order.{Order}
 use Rattle.order.specs.State.{active, done}
 use Rattle.order.specs.Scope.{Scope, scope_at}

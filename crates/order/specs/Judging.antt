@@ -2,11 +2,12 @@
 use Rattle.std.specs.Prelude.{ℕ, zero, suc, ◌+◌, ◌*◌, Bool, true, false, cond, ◌&&◌, List, [], ◌∷◌, ◌++◌, get_or, eqb}
 use Rattle.plan.specs.Tree.{From, partner_from, Plan, size}
 use Rattle.order.specs.declared.Order.{Order}
+use Rattle.order.specs.declared.End.{End}
 use Rattle.order.specs.declared.End.TheVariants.{None, Well, Handled, Failed, Left}
 use Rattle.order.specs.Lists.{some, alike}
 use Rattle.order.specs.State.{active, inside, done, faulty, undoing, handling, halted, withdrawing, state_in}
 use Rattle.order.specs.Event.{Event}
-use Rattle.order.specs.Acting.{its_own, in_place, Moved, acted}
+use Rattle.order.specs.Acting.{Actor, its_own, in_place, Moved, acted}
 use Rattle.order.specs.Awaited.{Doing, no_step, sends, takes, moves, cuts, closes, Ready, ready_of, kind_at}
 
 -- "a receive in an order with the partner, operation and variables of one already open there": the variables in the same order; where a reply partner is stored is

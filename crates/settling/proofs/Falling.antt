@@ -2,21 +2,21 @@
 use Prim.Native.Nat.{ℕ, zero, suc, ◌+◌, ◌≤◌, ◌<◌}
 use native.Mathlib.Omega.{arith}
 use mathlib.Core.Path.{◌≡◌, refl, sym, ap, subst, ◌∙◌}
-use mathlib.Core.Bool.{Bool, true, false, cond, ◌&&◌, ◌||◌, false≢true}
+use mathlib.Core.Bool.{Bool, true, false, cond, ◌&&◌, ◌||◌, false≢true, or-true}
 use mathlib.Core.List.{List, [], ◌∷◌, ◌++◌}
 use lib.ListN.{get_or, set}
 use lib.Seq.{get_or-set_other}
 use lib.Dec.{eqb, ltb}
-use borrow.Author.Tests.{eqb-true, eq-eqb, ne_eqb, lt-ltb, le-ltb}
-use Rattle.plan.specs.Tree.{from_partner, from_asking, Own, empty, send, receive, set as setting, raise, leave, choose, repeat, sequence, flow, pick, scope, arm, kind, undo_part, is_scope, is_pick, is_arm, Act, act, Acts, none, more, size, sizes}
+use borrow.Author.Tests.{eqb-true, eqb-false, eq-eqb, ne_eqb, lt-ltb, le-ltb, ltb-true, ltb-false}
+use Rattle.plan.specs.Tree.{Exp, from_partner, from_asking, Own, empty, send, receive, set as setting, raise, leave, choose, repeat, sequence, flow, pick, scope, arm, kind, undo_part, is_scope, is_pick, is_arm, Act, act, Acts, none, more, Plan, size, sizes}
 use Rattle.order.specs.declared.Order.{Order}
 use Rattle.order.specs.declared.Way.{Way as Result}
 use Rattle.order.specs.declared.Way.TheVariants.{Running as running, Over as over, Raising as raising, Leaving as leaving, Undone as undone, UndoRaising as undo_raising}
-use Rattle.order.specs.State.{idle, active, inside, undoing, handling, withdrawing, inner, with_marks, marked, mark_at, mark_of, state_of}
+use Rattle.order.specs.State.{idle, active, inside, done, undoing, handling, withdrawing, Name, root, inner, with_marks, marked, mark_at, mark_of, state_of}
 use Rattle.order.specs.Event.{Event}
 use Rattle.order.specs.Expression.{conflicting_receive}
-use Rattle.order.specs.Begin.{Begun, begin_after, part_at, quiet, cleared}
-use Rattle.order.specs.Scope.{Outcome, runs, after, begun_in, where_over, Scope, scope_at, breaks, looks_again, body_over, body_raised, undo_raised, from_body, part_raised, from_fault, goes_through, from_undo}
+use Rattle.order.specs.Begin.{Begun, begin_after, part, part_at, quiet, cleared}
+use Rattle.order.specs.Scope.{Outcome, runs, after, begun_in, where_over, Scope, scope_at, root_of, breaks, looks_again, body_over, body_raised, undo_raised, from_body, part_raised, from_fault, goes_through, from_undo}
 use Rattle.order.specs.Acting.{finishes, raises, again, is_part, arms, goes_on, joins, in_scope, combines, in_place, replaces, performs, step_in, step_among}
 use Rattle.order.specs.Awaited.{Doing, doing_of, awaits}
 use Rattle.order.specs.Judging.{rank}
@@ -27,9 +27,9 @@ use Rattle.laws.proofs.Numbers.{is_calm, Calm, calm-looks, calm-body-over, calm-
 use Rattle.settling.proofs.Parts.{both, decide, first-of, second-of}
 use Rattle.settling.proofs.Formed.{Formed, formed-part, formed-scope, FormedIn, formed-none, formed-more}
 use Rattle.settling.proofs.Waiting.{opens, Waits, waits-itself, waits-within, WaitsIn, waits-first, waits-later}
-use Rattle.settling.proofs.Knowing.{Arms, Knows, knows, KnowsIn, knows_more, part-from, arm-open}
+use Rattle.settling.proofs.Knowing.{Arms, Knows, knows, KnowsIn, knows-none, knows_more, part-from, arm-open}
 use Rattle.settling.proofs.Clashing.{is_take, doing-here, doing-within, doing-among, doing-later}
-use Rattle.settling.proofs.Lower.{Same, same_then, same-less, same_set, end_with, same_after, same-cleared, rank-set, rank-above, Low, low-itself, Owns, own_at, Lowered, stays, lowers, again-lowered, over-lowered, breaks-lowered, raised-lowered}
+use Rattle.settling.proofs.Lower.{Same, same-itself, same_then, same-less, same_set, end_with, same_after, same-cleared, rank-set, rank-above, Low, low-itself, low-then, low-less, Owns, own_at, own_root, Under, Lowered, stays, lowers, again-lowered, over-lowered, breaks-lowered, raised-lowered}
 
 -- the first mark that changes falls, from b on and before e
 pub record Falls (f : ℕ → ℕ) (b e : ℕ) (ms ns : List ℕ) : Type 0 where

@@ -8,15 +8,15 @@ use lib.ListN.{length, get_or, set, length-set, get_or-eq_default}
 use lib.Seq.{get_or-set_other, get_or-set_same}
 use lib.Dec.{eqb, ltb}
 use borrow.Author.Tests.{eqb-true, ltb-true, ltb-false}
-use Rattle.plan.specs.Tree.{empty, send, receive, set as setting, raise, leave, choose, repeat, sequence, flow, pick, scope, arm, is_scope, has_undo, numbers_of, general_part, undo_part, Act, act, Acts, none, more, Plan, size}
+use Rattle.plan.specs.Tree.{Exp, Own, empty, send, receive, set as setting, raise, leave, choose, repeat, sequence, flow, pick, scope, arm, is_scope, has_undo, numbers_of, general_part, undo_part, Act, act, Acts, none, more, Plan, size, sizes}
 use Rattle.order.specs.declared.Closing.{Closing}
 use Rattle.order.specs.declared.Order.{Order}
 use Rattle.order.specs.declared.Way.{Way as Result}
 use Rattle.order.specs.declared.Way.TheVariants.{Running as running, Over as over, Raising as raising, Leaving as leaving, Undone as undone, UndoRaising as undo_raising}
-use Rattle.order.specs.Lists.{only}
+use Rattle.order.specs.Lists.{only, without_last}
 use Rattle.order.specs.State.{idle, active, done, faulty, undoing, handling, halted, withdrawing, Name, root, inner, with_marks, marked, mark_at, mark_of, marking, mark_with, state_in, state_of, choice_of, going, causing, closings, remembering}
-use Rattle.order.specs.Begin.{Begun, nothing_begun, throughout, around, in_turn, begin, begin_in_turn, begin_all, begin_first, begin_after, part, part_at, begin_part, cleared}
-use Rattle.order.specs.Scope.{Outcome, runs, begun_in, where_over, Scope, scope_at, behind, by_number, choice_for, chosen_part, chosen_at, root_of, is_for, is_open, inner_runs, remembered_for, forgetting, begin_undo, begin_undo_first, begin_undo_in, start_undo, undo, ends, handle, undoes, turns, withdraws, faults, breaks, looks_again, body_over, body_raised, Stopped, untouched, stop, stop_all, stop_first}
+use Rattle.order.specs.Begin.{Begun, nothing_begun, awaiting, throughout, around, its_beginning, in_turn, side_by_side, begin, begin_in_turn, begin_all, begin_first, begin_after, part, part_at, begin_part, cleared}
+use Rattle.order.specs.Scope.{Outcome, runs, after, begun_in, where_over, Scope, scope_at, behind, by_number, choice_for, chosen_part, chosen_at, root_of, is_for, is_open, inner_runs, remembered_for, forgetting, begin_undo, begin_undo_first, begin_undo_in, start_undo, undo, ends, handle, undoes, turns, withdraws, faults, breaks, looks_again, body_over, body_raised, Stopped, untouched, also_stopped, stop, stop_all, stop_first}
 use Rattle.order.specs.Judging.{rank}
 use Rattle.order.proofs.Chosen.{state-alone, state-with}
 use Rattle.settling.proofs.Parts.{decide}

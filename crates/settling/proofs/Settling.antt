@@ -1,30 +1,38 @@
 -- The judging after a step comes to an end: each raise leaves an order lower than before. Assumes nothing.
 use Prim.Native.Nat.{ℕ, zero, suc, ◌+◌, ◌*◌, ◌≤◌, ◌<◌}
 use native.Mathlib.Omega.{arith}
-use mathlib.Core.Path.{◌≡◌, refl, sym, subst}
-use mathlib.Core.Bool.{Bool, true, false}
-use mathlib.Core.List.{List}
-use lib.ListN.{get_or}
+use mathlib.Core.Path.{◌≡◌, refl, sym, ap, subst, ◌∙◌}
+use mathlib.Core.Bool.{Bool, true, false, cond, false≢true}
+use mathlib.Core.List.{List, [], ◌∷◌, ◌++◌}
+use lib.ListN.{get_or, replicate, length-replicate, get_or-replicate, get_or-eq_default}
 use lib.Dec.{eqb, ltb}
-use borrow.Author.Tests.{eqb-true, eqb-false, lt-ltb, le-ltb}
-use Rattle.plan.specs.Tree.{Plan, size}
+use borrow.Author.Tests.{eqb-true, eqb-false, lt-ltb, le-ltb, ltb-true, ltb-false}
+use Rattle.plan.specs.Found.{Found, found}
+use Rattle.plan.specs.Read.{read_plan}
+use Rattle.plan.specs.Tree.{Act, act, Acts, none, more, Plan, size}
 use Rattle.order.specs.declared.Order.{Order}
 use Rattle.order.specs.declared.End.{End}
 use Rattle.order.specs.declared.End.TheVariants.{None, Well, Handled, Failed, Left}
-use Rattle.order.specs.State.{mark_of, state_in, root, with_marks}
+use Rattle.machine.specs.declared.State.{State}
+use Rattle.machine.specs.declared.Tally.{Tally}
+use Rattle.order.specs.State.{idle, active, done, mark_of, state_in, root, with_marks, no_order}
+use Rattle.machine.specs.State.{fresh}
 use Rattle.order.specs.Begin.{cleared}
+use Rattle.order.specs.declared.Way.{Way as Result}
+use Rattle.order.specs.declared.Way.TheVariants.{Running as running, Over as over, Raising as raising, Leaving as leaving, Undone as undone, UndoRaising as undo_raising}
+use Rattle.order.specs.Event.{Event}
 use Rattle.order.specs.Scope.{Outcome, root_of, from_body, from_fault}
-use Rattle.order.specs.Acting.{in_place, step_in, step_root, end_of, Moved, moved_to, acted}
+use Rattle.order.specs.Acting.{its_own, in_place, step_in, step_root, end_of, Moved, moved_to, acted}
 use Rattle.order.specs.Awaited.{Doing, kind_at}
-use Rattle.order.specs.Judging.{Verdict, clear, clash, conflict, following, upon, judged, rank, weight, spare}
-use Rattle.machine.specs.Calls.{doing_at}
+use Rattle.order.specs.Judging.{Verdict, clear, clash, conflict, following, upon, judged, rank, weight, spare, settled, step_order}
+use Rattle.machine.specs.Calls.{loaded_as, load, post, collect, doing_at, doing_in, step, Call, posting, collecting, stepping}
 use Rattle.settling.proofs.Parts.{decide, first-of, second-of}
 use Rattle.settling.proofs.Formed.{Shaped}
 use Rattle.settling.proofs.Waiting.{Awaited, in-body, in-fault}
 use Rattle.settling.proofs.Knowing.{body-knows, fault-knows}
 use Rattle.settling.proofs.Clashing.{is_take, doing-body, doing-fault, OnClash, Higher, conflict-awaited}
-use Rattle.settling.proofs.Lower.{own_root, Lowered, stays, lowers}
-use Rattle.settling.proofs.Falling.{Falls, falls-wider, Fell, no_arm, step_falls, body-lowered, fault-lowered}
+use Rattle.settling.proofs.Lower.{Same, Owns, own_root, Under, Lowered, stays, lowers}
+use Rattle.settling.proofs.Falling.{Falls, falls-wider, Fell, is_plain, no_arm, step_falls, body-lowered, fault-lowered}
 
 -- A rank is below 9.
 pub rank_most : (n m : ℕ) → rank n m ≤ 8

@@ -1,11 +1,11 @@
 -- The ranks of an order's marks by the rows of the plan's table are those by the plan. Assumes nothing.
 use Prim.Native.Nat.{ℕ, zero, suc, ◌+◌, ◌*◌, ◌≤◌, ◌<◌}
 use native.Mathlib.Omega.{arith}
-use mathlib.Core.Path.{◌≡◌, refl, sym, ap, ◌∙◌}
+use mathlib.Core.Path.{◌≡◌, refl, sym, ap, subst, ◌∙◌}
 use mathlib.Core.Bool.{Bool, true, false, cond}
 use mathlib.Core.List.{List}
 use lib.ListN.{get_or}
-use lib.Dec.{eqb, ltb}
+use lib.Dec.{eqb, ltb, leb}
 use borrow.Author.Tests.{eqb-true, eqb-false, ltb-true, ltb-false, le-leb}
 use Rattle.plan.specs.Tree.{kind, Act, act, Acts, none, more, Plan, size, sizes}
 use Rattle.order.specs.declared.Order.{Order}
@@ -15,7 +15,7 @@ use Rattle.order.specs.Judging.{rank, weight, spare}
 use Rattle.order.specs.Stands.{Stands, StandAll}
 use Rattle.order.proofs.PlanStands.{plan-stands}
 use Rattle.settling.specs.Answering.{rows_of, weight_in}
-use Rattle.settling.proofs.Formed.{shaped}
+use Rattle.settling.proofs.Formed.{Shaped, shaped}
 
 -- the kind of an activity stands in its row
 mutual
