@@ -3,84 +3,60 @@ use super::sizes;
 use drawing::{Out, put_labelled};
 use order::Order;
 use plan::table::Table;
-use wording::doing;
+use wording::doing::{self, Doing};
 
 // How a box is marked, by what its activity does.
-fn put_class(out: &mut Out, doing: usize) {
+fn put_class(out: &mut Out, doing: Doing) {
     match doing {
-        doing::IDLE => out.put_markup(b"idle"),
-        doing::DONE => out.put_markup(b"done"),
-        doing::RUNNING => out.put_markup(b"run"),
-        doing::WAITING => out.put_markup(b"wait"),
-        doing::REMEMBERED => out.put_markup(b"kept"),
-        doing::STOPPED => out.put_markup(b"stop"),
-        doing::FAULTED
-        | doing::UNDOING
-        | doing::HANDLING
-        | doing::STOPPED_UNDOING
-        | doing::UNDONE => out.put_markup(b"fault"),
-        _ => out.put_markup(b"ready"),
+        Doing::Idle => out.put_markup(b"idle"),
+        Doing::Done => out.put_markup(b"done"),
+        Doing::Running => out.put_markup(b"run"),
+        Doing::Waiting => out.put_markup(b"wait"),
+        Doing::Remembered => out.put_markup(b"kept"),
+        Doing::Stopped => out.put_markup(b"stop"),
+        Doing::Faulted | Doing::Undoing | Doing::Handling | Doing::StoppedUndoing | Doing::Undone =>
+            out.put_markup(b"fault"),
+        Doing::ToSend
+        | Doing::ToSet
+        | Doing::ToRaise
+        | Doing::ToLeave
+        | Doing::ToDecide
+        | Doing::ToClose
+        | Doing::Unknown => out.put_markup(b"ready"),
     }
 }
 
 // Whether the closing with this turn, the latest 1, is of scope n.
 fn is_turn(order: Order, n: usize, turn: usize) -> bool {
-    if order.kept < turn {
-        return false;
-    }
-    doing::scope_in(order, order.kept - turn) == n
+    turn <= order.kept && doing::scope_in(order, order.kept - turn) == n
 }
 
-// When the latest closing of scope n would be undone: its number in the list below the drawing, 0 where none is remembered.
-fn turn_of(order: Order, n: usize) -> usize {
-    let mut turn = 1;
-    while turn < 33 {
-        if is_turn(order, n, turn) {
-            return turn;
-        }
-        turn += 1;
-    }
-    0
-}
-
-fn with_turn(times: u64, counts: bool) -> u64 {
-    if counts {
-        if times < 32 {
-            return times + 1;
-        }
-    }
-    times
+// When the latest closing of scope n would be undone: its number in the list below the drawing, where one is remembered.
+fn turn_of(order: Order, n: usize) -> Option<usize> {
+    (1..33).find(|turn| is_turn(order, n, *turn))
 }
 
 // How many closings of scope n are remembered.
-fn times_of(order: Order, n: usize) -> u64 {
-    let mut times = 0;
-    let mut turn = 1;
-    while turn < 33 {
-        times = with_turn(times, is_turn(order, n, turn));
-        turn += 1;
-    }
-    times
+fn times_of(order: Order, n: usize) -> usize {
+    (1..33).filter(|turn| is_turn(order, n, *turn)).count()
 }
 
 // When the closings of scope n would be undone.
 fn put_turn(out: &mut Out, order: Order, n: usize) {
-    let turn = turn_of(order, n);
-    if turn == 0 {
-        return;
-    }
-    out.put(b", undo ");
-    out.put_number(turn as u64);
-    let times = times_of(order, n);
-    if times != 1 {
-        out.put(b" (");
-        out.put_number(times);
-        out.put(b" times)");
+    if let Some(turn) = turn_of(order, n) {
+        out.put(b", undo ");
+        out.put_number(turn as u64);
+        let times = times_of(order, n);
+        if times != 1 {
+            out.put(b" (");
+            out.put_number(times as u64);
+            out.put(b" times)");
+        }
     }
 }
 
 // What activity n does, and when it would be undone.
-fn put_state(out: &mut Out, doing: usize, order: Order, n: usize) {
+fn put_state(out: &mut Out, doing: Doing, order: Order, n: usize) {
     doing::put_doing(out, false, doing);
     put_turn(out, order, n);
 }
@@ -170,13 +146,6 @@ fn width_for(
     sizes::width_for(table, n, plus(label.len(), state.len()))
 }
 
-fn wider(x: usize, y: usize) -> usize {
-    if x < y {
-        return y;
-    }
-    x
-}
-
 fn width_of(
     like: &Out,
     names: &[u8; 16896],
@@ -186,10 +155,8 @@ fn width_of(
     order: Order,
 ) -> usize {
     let mut width = 300;
-    let mut n = 0;
-    while n < activities {
-        width = wider(width, width_for(like, names, table, flags, order, n));
-        n += 1;
+    for n in 0..activities {
+        width = width_for(like, names, table, flags, order, n).max(width);
     }
     width
 }
@@ -217,10 +184,8 @@ fn put_rows(
     order: Order,
     whole: usize,
 ) {
-    let mut n = 0;
-    while n < activities {
+    for n in 0..activities {
         put_box(out, names, table, flags, order, n, whole);
-        n += 1;
     }
 }
 

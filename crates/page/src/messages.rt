@@ -3,17 +3,17 @@ use drawing::Out;
 use machine::{Message, State};
 use plan::table::Table;
 use telling::put_letter;
-use why::strays;
+use why::strays::{Fate, fate_of};
 
 // What becomes of a message, in words. What nobody takes, or room is wanted for, is marked.
-fn put_fate(out: &mut Out, fate: u32) {
+fn put_fate(out: &mut Out, fate: Fate) {
     match fate {
-        strays::LEAVES => out.put(b"leaves by collect"),
-        strays::UNTAKEN => put_marked(out, b"no receive of the plan takes it"),
-        strays::LATER => put_marked(out, b"no order takes it now"),
-        strays::HELD => put_marked(out, b"would start an order: held, since 16 orders are live"),
-        strays::STARTS => out.put(b"starts an order"),
-        _ => out.put(b"an order takes it"),
+        Fate::Leaves => out.put(b"leaves by collect"),
+        Fate::Untaken => put_marked(out, b"no receive of the plan takes it"),
+        Fate::Later => put_marked(out, b"no order takes it now"),
+        Fate::Held => put_marked(out, b"would start an order: held, since 16 orders are live"),
+        Fate::Starts => out.put(b"starts an order"),
+        Fate::Taken => out.put(b"an order takes it"),
     }
 }
 
@@ -30,7 +30,7 @@ fn put_one(
     table: &Table,
     activities: usize,
     place: usize,
-    fate: u32,
+    fate: Fate,
     m: Message,
 ) {
     out.put_markup(b"<tr><td>");
@@ -51,18 +51,19 @@ fn put_lines(
     activities: usize,
     state: State,
 ) {
-    let orders = state.orders;
-    let messages = state.messages;
-    let waiting = state.waiting;
-    let letters = fit::letters::letters_of(messages, waiting);
-    let mut j = 0;
-    while j < 64 {
-        if j < waiting {
-            let m = messages[j];
-            let fate = strays::fate_of(table, flags, picks, activities, orders, &letters, j, m);
-            put_one(out, names, table, activities, j, fate, m);
-        }
-        j += 1;
+    let letters = fit::letters::letters_of(state.messages, state.waiting);
+    for (j, m) in state.messages.iter().enumerate().take(state.waiting) {
+        let fate = fate_of(
+            table,
+            flags,
+            picks,
+            activities,
+            state.orders,
+            &letters,
+            j,
+            *m,
+        );
+        put_one(out, names, table, activities, j, fate, *m);
     }
 }
 

@@ -39,16 +39,12 @@ fn put_lines(
     activities: usize,
     state: State,
 ) {
-    let orders = state.orders;
-    let mut slot = 0;
-    while slot < 16 {
-        let order = orders[slot];
+    for (slot, order) in state.orders.iter().enumerate() {
         if order.root != 0 {
             put_line(
-                out, names, table, flags, picks, activities, state, slot, order,
+                out, names, table, flags, picks, activities, state, slot, *order,
             );
         }
-        slot += 1;
     }
 }
 
@@ -105,10 +101,8 @@ fn put_closing(
 }
 
 fn put_closings(out: &mut Out, names: &[u8; 16896], table: &Table, flags: &[u8; 16], order: Order) {
-    let mut turn = 1;
-    while turn < 33 {
+    for turn in 1..33 {
         put_closing(out, names, table, flags, turn, order);
-        turn += 1;
     }
 }
 
@@ -178,13 +172,11 @@ pub(crate) fn put_orders(
     activities: usize,
     state: State,
 ) {
-    let orders = state.orders;
-    let mut slot = 0;
-    while slot < 16 {
-        let order = orders[slot];
+    for (slot, order) in state.orders.iter().enumerate() {
         if order.root != 0 {
-            put_order(out, names, table, flags, variables, activities, slot, order);
+            put_order(
+                out, names, table, flags, variables, activities, slot, *order,
+            );
         }
-        slot += 1;
     }
 }

@@ -20,10 +20,7 @@ const TWO_LETTERS: usize = 15;
 pub(crate) fn at_most(x: usize, most: usize) -> usize
     ensures { result ≤ most }
 {
-    if x < most {
-        return x;
-    }
-    most
+    x.min(most)
 }
 
 // How many boxes stand around that of row n.
@@ -40,11 +37,7 @@ pub(crate) fn left_of(table: &Table, n: usize) -> usize {
 // The lines above row n, and a gap for each box above it that is over.
 pub(crate) fn top_of(table: &Table, n: usize) -> usize {
     let k = at_most(n, 256);
-    let d = around(table, n);
-    if d < k {
-        return k * LINE + (k - d) * GAP + 2;
-    }
-    k * LINE + 2
+    k * LINE + k.saturating_sub(around(table, n)) * GAP + 2
 }
 
 // How many lines the box of row n has: its own, and those of what stands in it.
@@ -52,28 +45,17 @@ fn lines_of(table: &Table, n: usize) -> usize
     ensures { result ≤ 256 }
 {
     let end = at_most(end_of(table, n), 256);
-    let k = at_most(n, 256);
-    if k < end {
-        return end - k;
-    }
-    1
+    end.saturating_sub(n).max(1)
 }
 
 pub(crate) fn height_of(table: &Table, n: usize) -> usize {
     let k = lines_of(table, n);
-    if 0 < k {
-        return k * LINE + (k - 1) * GAP;
-    }
-    LINE
+    k * LINE + k.saturating_sub(1) * GAP
 }
 
 // The width of the box of row n, in a drawing of this width.
 pub(crate) fn width_of(table: &Table, n: usize, whole: usize) -> usize {
-    let less = around(table, n) * (LEFT + RIGHT) + 4;
-    if less < whole {
-        return whole - less;
-    }
-    0
+    whole.saturating_sub(around(table, n) * (LEFT + RIGHT) + 4)
 }
 
 // The width of a drawing in which the box of row n has room for so many letters.

@@ -2,34 +2,24 @@
 use drawing::{Out, entry, put_operation, put_partner, put_variable};
 use machine::Message;
 use plan::kind;
-use plan::table::{COUNT, KIND, OPERATION, PARTNER, Table};
+use plan::table::{COUNT, KIND, OPERATION, PARTNER, Table, VARIABLES};
 
 // Whether row n is a receive or an arm.
 fn is_receive(table: &Table, n: usize) -> bool {
-    match entry(table, n, KIND) {
-        kind::RECEIVE | kind::ASKING_RECEIVE | kind::ARM => true,
-        _ => false,
-    }
+    matches!(
+        entry(table, n, KIND),
+        kind::RECEIVE | kind::ASKING_RECEIVE | kind::ARM
+    )
 }
 
 // Whether row n receives on a partner.
 fn receives_on(table: &Table, n: usize, partner: u32) -> bool {
-    if is_receive(table, n) {
-        return entry(table, n, PARTNER) == partner;
-    }
-    false
+    is_receive(table, n) && entry(table, n, PARTNER) == partner
 }
 
 // Whether the plan receives on a partner. What is sent to any other leaves.
 pub fn is_received(table: &Table, activities: usize, partner: u32) -> bool {
-    let mut n = 0;
-    while n < activities {
-        if receives_on(table, n, partner) {
-            return true;
-        }
-        n += 1;
-    }
-    false
+    (0..activities).any(|n| receives_on(table, n, partner))
 }
 
 // Whether row n sends to a partner: one whose partner a variable holds may send to any.
@@ -41,13 +31,6 @@ fn sends_to(table: &Table, n: usize, partner: u32) -> bool {
     }
 }
 
-fn is_with(table: &Table, n: usize, receiving: bool, partner: u32) -> bool {
-    if receiving {
-        return receives_on(table, n, partner);
-    }
-    sends_to(table, n, partner)
-}
-
 // Whether row n, a send or, where `receiving`, a receive, is of this partner, operation and count.
 fn is_of(
     table: &Table,
@@ -57,13 +40,12 @@ fn is_of(
     operation: u32,
     count: u32,
 ) -> bool {
-    if !is_with(table, n, receiving, partner) {
-        return false;
-    }
-    if entry(table, n, OPERATION) != operation {
-        return false;
-    }
-    entry(table, n, COUNT) == count
+    let with = if receiving {
+        receives_on(table, n, partner)
+    } else {
+        sends_to(table, n, partner)
+    };
+    with && entry(table, n, OPERATION) == operation && entry(table, n, COUNT) == count
 }
 
 // Whether a receive of the plan takes such messages.
@@ -74,56 +56,38 @@ pub fn is_taken(
     operation: u32,
     count: u32,
 ) -> bool {
-    let mut n = 0;
-    while n < activities {
-        if is_of(table, n, true, partner, operation, count) {
-            return true;
-        }
-        n += 1;
-    }
-    false
+    (0..activities).any(|n| is_of(table, n, true, partner, operation, count))
 }
 
-// The variable that all rows so far have: 16 where they differ, 17 where there was none.
-fn agreed(before: u32, variable: u32) -> u32 {
-    if before == 17 {
-        return variable;
-    }
-    if before == variable {
-        return variable;
-    }
-    16
-}
-
-// The variable at place i of all rows of this kind, partner, operation and count; 16 or more where they have no one variable there.
+// The one variable that stands in this field of all rows of this kind, partner, operation and count, where they have one.
 fn variable_at(
     table: &Table,
     activities: usize,
     receiving: bool,
-    partner: u32,
-    operation: u32,
-    count: u32,
+    m: Message,
     field: usize,
-) -> u32 {
-    let mut v = 17;
-    let mut n = 0;
-    while n < activities {
-        if is_of(table, n, receiving, partner, operation, count) {
-            v = agreed(v, entry(table, n, field));
+) -> Option<u32> {
+    let mut variable = None;
+    for n in 0..activities {
+        if is_of(table, n, receiving, m.partner, m.operation, m.count) {
+            let here = entry(table, n, field);
+            match variable {
+                Some(before) if before != here => return None,
+                _ => variable = Some(here),
+            }
         }
-        n += 1;
     }
-    v
+    variable.filter(|v| *v < 16)
 }
 
 // Value i of a message, by its variable where it has one.
-fn put_value(out: &mut Out, names: &[u8; 16896], variable: u32, front: &[u8], value: u32) {
+fn put_value(out: &mut Out, names: &[u8; 16896], variable: Option<u32>, front: &[u8], value: u32) {
     out.put(front);
-    if variable < 16 {
-        put_variable(out, names, variable);
+    if let Some(v) = variable {
+        put_variable(out, names, v);
         out.put_byte(b' ');
     }
-    out.put_number(value as u64);
+    out.put_number(u64::from(value));
 }
 
 // Operation and partner, where the partner speaks to us or we to it.
@@ -143,6 +107,7 @@ pub fn put_exchange(
     put_partner(out, names, partner);
 }
 
+// The values of a message, each by the variable that stands in its place in the rows.
 fn put_values(
     out: &mut Out,
     names: &[u8; 16896],
@@ -151,73 +116,23 @@ fn put_values(
     receiving: bool,
     m: Message,
 ) {
-    let values = m.values;
-    let few = m.count as usize;
-    put_place(
-        out, names, table, activities, receiving, m, 4, b": ", values[0],
-    );
-    if 1 < few {
-        put_place(
-            out, names, table, activities, receiving, m, 5, b", ", values[1],
-        );
+    let many = (m.count as usize).max(1);
+    for (i, value) in m.values.iter().enumerate().take(many) {
+        let front: &[u8] = if i == 0 { b": " } else { b", " };
+        let variable = variable_at(table, activities, receiving, m, VARIABLES + i);
+        put_value(out, names, variable, front, *value);
     }
-    if 2 < few {
-        put_place(
-            out, names, table, activities, receiving, m, 6, b", ", values[2],
-        );
-    }
-    if 3 < few {
-        put_place(
-            out, names, table, activities, receiving, m, 7, b", ", values[3],
-        );
-    }
-}
-
-// The value whose variable stands in this field of the rows.
-fn put_place(
-    out: &mut Out,
-    names: &[u8; 16896],
-    table: &Table,
-    activities: usize,
-    receiving: bool,
-    m: Message,
-    field: usize,
-    front: &[u8],
-    value: u32,
-) {
-    let v = variable_at(
-        table,
-        activities,
-        receiving,
-        m.partner,
-        m.operation,
-        m.count,
-        field,
-    );
-    put_value(out, names, v, front, value);
 }
 
 // Whether row n takes messages like m, and stores whom to reply to.
 fn is_storing(table: &Table, n: usize, m: Message) -> bool {
-    if entry(table, n, KIND) == kind::ASKING_RECEIVE {
-        return is_of(table, n, true, m.partner, m.operation, m.count);
-    }
-    false
+    entry(table, n, KIND) == kind::ASKING_RECEIVE
+        && is_of(table, n, true, m.partner, m.operation, m.count)
 }
 
 // Whether it matters whom to reply to: partner 0, which is also what a message has that names nobody, only where a receive of the plan stores it.
 fn is_reply_told(table: &Table, activities: usize, m: Message) -> bool {
-    if m.reply != 0 {
-        return true;
-    }
-    let mut n = 0;
-    while n < activities {
-        if is_storing(table, n, m) {
-            return true;
-        }
-        n += 1;
-    }
-    false
+    m.reply != 0 || (0..activities).any(|n| is_storing(table, n, m))
 }
 
 // Behind a message, whom to reply to.

@@ -28,26 +28,16 @@ pub(crate) fn deed_of(
     acting::acted(table, activities, p, n, false)
 }
 
-fn goes_on(end: End) -> bool {
+// The higher-numbered of two that are open for one thing, where two are, and the order has not ended.
+fn clash_in(table: &Table, activities: usize, end: End, marks: &[u8; 256]) -> Option<usize> {
     match end {
-        End::None => true,
-        End::Well | End::Handled | End::Failed | End::Left => false,
+        End::None => first_conflict(table, activities, marks),
+        End::Well | End::Handled | End::Failed | End::Left => None,
     }
-}
-
-// The higher-numbered of two that are open for one thing; 256 where no two are, or the order has ended.
-fn clash_in(table: &Table, activities: usize, end: End, marks: &[u8; 256]) -> usize {
-    if goes_on(end) {
-        return first_conflict(table, activities, marks).unwrap_or(256);
-    }
-    256
 }
 
 fn mark_at(marks: &[u8; 256], n: usize) -> u8 {
-    if n < 256 {
-        return marks[n];
-    }
-    0
+    marks.get(n).copied().unwrap_or(0)
 }
 
 // Whether row n is an open receive or arm.
@@ -59,24 +49,11 @@ fn is_open(table: &Table, picks: &[usize; 256], marks: &[u8; 256], n: usize) -> 
     }
 }
 
-// Whether row j is open for the same thing as row k.
-fn is_other(table: &Table, picks: &[usize; 256], marks: &[u8; 256], j: usize, k: usize) -> bool {
-    if is_open(table, picks, marks, j) {
-        return is_same_thing(table, j, k);
-    }
-    false
-}
-
 // The lower-numbered of the pair whose higher number is k.
 fn lower_of(table: &Table, picks: &[usize; 256], marks: &[u8; 256], k: usize) -> usize {
-    let mut j = 0;
-    while j < k {
-        if is_other(table, picks, marks, j, k) {
-            return j;
-        }
-        j += 1;
-    }
-    k
+    (0..k)
+        .find(|j| is_open(table, picks, marks, *j) && is_same_thing(table, *j, k))
+        .unwrap_or(k)
 }
 
 // A receive or an arm by its number.
@@ -101,17 +78,11 @@ fn put_raise(out: &mut Out, table: &Table, picks: &[usize; 256], marks: &[u8; 25
 pub(crate) fn put_raises(out: &mut Out, table: &Table, activities: usize, next: Next) {
     let picks = fit::search::picks_of(table);
     let mut m = next;
-    let mut left: usize = 256;
-    while left > 0 {
-        let o = m.order;
-        let marks = o.marks;
-        let end = m.end;
-        let k = clash_in(table, activities, end, &marks);
-        if 256 <= k {
+    for _ in 0..256 {
+        let Some(k) = clash_in(table, activities, m.end, &m.order.marks) else {
             return;
-        }
-        put_raise(out, table, &picks, &marks, k);
-        m = acting::acted(table, activities, o, k, true);
-        left -= 1;
+        };
+        put_raise(out, table, &picks, &m.order.marks, k);
+        m = acting::acted(table, activities, m.order, k, true);
     }
 }

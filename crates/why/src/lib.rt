@@ -36,16 +36,14 @@ fn put_keys(
     bound: &[u8; 16],
     values: &[u32; 16],
 ) {
-    let mut v = 0;
-    while v < 16 {
+    for (v, flag) in flags.iter().enumerate() {
         put_key(
             out,
             names,
-            flags[v],
+            *flag,
             v as u32,
             value_in(bound, values, v as u32),
         );
-        v += 1;
     }
 }
 
@@ -93,13 +91,7 @@ fn put_order(
 
 // Whether an order is asked for: it is live, and it is this one or all are, which slot 16 says.
 fn is_asked(only: usize, slot: usize, root: u8) -> bool {
-    if root == 0 {
-        return false;
-    }
-    if only == slot {
-        return true;
-    }
-    only == 16
+    root != 0 && (only == slot || only == 16)
 }
 
 fn put_orders(
@@ -112,16 +104,12 @@ fn put_orders(
     state: State,
     only: usize,
 ) {
-    let orders = state.orders;
-    let mut slot = 0;
-    while slot < 16 {
-        let order = orders[slot];
+    for (slot, order) in state.orders.iter().enumerate() {
         if is_asked(only, slot, order.root) {
             put_order(
-                out, names, table, flags, picks, activities, state, slot, order,
+                out, names, table, flags, picks, activities, state, slot, *order,
             );
         }
-        slot += 1;
     }
 }
 
@@ -186,12 +174,10 @@ fn put_held_rows(
     slot: usize,
     order: Order,
 ) {
-    let mut n = 0;
-    while n < activities {
+    for n in 0..activities {
         put_held_row(
             out, names, table, flags, picks, activities, state, slot, order, n,
         );
-        n += 1;
     }
 }
 
@@ -205,16 +191,12 @@ pub fn put_held(
     activities: usize,
     state: State,
 ) {
-    let orders = state.orders;
-    let mut slot = 0;
-    while slot < 16 {
-        let order = orders[slot];
+    for (slot, order) in state.orders.iter().enumerate() {
         if order.root != 0 {
             put_held_rows(
-                out, names, table, flags, picks, activities, state, slot, order,
+                out, names, table, flags, picks, activities, state, slot, *order,
             );
         }
-        slot += 1;
     }
     strays::put_strays(out, names, table, flags, picks, activities, state, true);
 }

@@ -10,10 +10,7 @@ use sayings::{has_faulted, put_by_fault, put_scope_faulted};
 use telling::{SENDS, fault_of, put_known, put_sending_fault, put_sent};
 
 fn mark_at(marks: &[u8; 256], n: usize) -> u8 {
-    if n < 256 {
-        return marks[n];
-    }
-    0
+    marks.get(n).copied().unwrap_or(0)
 }
 
 fn put_place(out: &mut Out, n: usize) {
@@ -126,13 +123,12 @@ fn put_contested(out: &mut Out, table: &Table, n: usize, choice: u8) {
 
 // Scope n, which has this mark: where it has faulted, by which fault.
 fn put_faulted(out: &mut Out, names: &[u8; 16896], table: &Table, n: usize, mark: u8) {
-    if !has_faulted(mark) {
-        return;
+    if has_faulted(mark) {
+        out.put(b"  ");
+        put_scope_faulted(out, names, table, n, mark);
+        put_contested(out, table, n, mark / 16);
+        out.put_byte(b'\n');
     }
-    out.put(b"  ");
-    put_scope_faulted(out, names, table, n, mark);
-    put_contested(out, table, n, mark / 16);
-    out.put_byte(b'\n');
 }
 
 fn put_close(out: &mut Out, names: &[u8; 16896], table: &Table, n: usize, held: bool) {
@@ -211,10 +207,8 @@ pub(crate) fn put_rows(
     state: State,
     order: Order,
 ) {
-    let mut n = 0;
-    while n < activities {
+    for n in 0..activities {
         let held = is_held(table, picks, activities, state.waiting, order, n);
         put_row(out, names, table, flags, picks, n, held, state, order);
-        n += 1;
     }
 }

@@ -51,10 +51,8 @@ fn put_sends(
     to: usize,
     order: Order,
 ) {
-    let mut n = from;
-    while n < to {
+    for n in from..to {
         put_one(out, names, table, flags, n, order);
-        n += 1;
     }
 }
 
@@ -114,9 +112,7 @@ pub(crate) fn put_undo(
     flags: &[u8; 16],
     order: Order,
 ) {
-    let mut i = 0;
-    while i < 32 {
-        put_would_undo(out, names, table, flags, 31 - i, order);
-        i += 1;
+    for i in (0..32).rev() {
+        put_would_undo(out, names, table, flags, i, order);
     }
 }

@@ -1,189 +1,143 @@
 // What an activity is doing in an order, by the order's marks: one of those below, each with its words. (What each mark means:
 // crates/order/specs/State.antt.)
-use drawing::{Out, after, end_of, entry, has_undo, parent_of, undo_of, wide};
+use drawing::{Out, after, end_of, entry, has_undo, parent_of, undo_of};
 use order::Order;
 use plan::kind;
 use plan::table::{KIND, Table};
 
 fn mark_at(marks: &[u8; 256], n: usize) -> u8 {
-    if n < 256 {
-        return marks[n];
-    }
-    0
+    marks.get(n).copied().unwrap_or(0)
 }
 
 // Whether anything runs from activity `from` to the one before `to`.
 fn is_running(marks: &[u8; 256], from: usize, to: usize) -> bool {
-    let mut n = from;
-    while n < to {
-        if mark_at(marks, n) != 0 {
-            return true;
-        }
-        n += 1;
-    }
-    false
+    (from..to).any(|n| mark_at(marks, n) != 0)
 }
 
-// Neither begun nor known to be over.
-pub const IDLE: usize = 0;
-
-pub const DONE: usize = 1;
-
-pub const RUNNING: usize = 2;
-
-pub const WAITING: usize = 3;
-
-pub const TO_SEND: usize = 4;
-
-pub const TO_SET: usize = 5;
-
-pub const TO_RAISE: usize = 6;
-
-pub const TO_LEAVE: usize = 7;
-
-pub const TO_DECIDE: usize = 8;
-
-pub const TO_CLOSE: usize = 9;
-
-pub const REMEMBERED: usize = 10;
-
-pub const FAULTED: usize = 11;
-
-pub const UNDOING: usize = 12;
-
-pub const HANDLING: usize = 13;
-
-pub const STOPPED: usize = 14;
-
-pub const STOPPED_UNDOING: usize = 15;
-
-pub const UNDONE: usize = 16;
-
-// What the table of no accepted plan has.
-const UNKNOWN: usize = 17;
-
-// What is done is said in two ways: in a column of its own, and as it is.
-fn put_said(out: &mut Out, column: bool, words: &[u8]) {
-    if column {
-        out.put_column(words);
-    } else {
-        out.put(words);
-    }
-}
-
-// Of what waits for its step.
-fn put_ready(out: &mut Out, column: bool, doing: usize) {
-    match doing {
-        WAITING => put_said(out, column, b"waiting for a message"),
-        TO_SEND => put_said(out, column, b"ready to send"),
-        TO_SET => put_said(out, column, b"ready to set"),
-        TO_RAISE => put_said(out, column, b"ready to raise"),
-        TO_LEAVE => put_said(out, column, b"ready to leave"),
-        TO_DECIDE => put_said(out, column, b"ready to decide"),
-        TO_CLOSE => put_said(out, column, b"done, ready to close"),
-        _ => put_said(out, column, b"of an unknown kind"),
-    }
+// What an activity does: nothing, where it has neither begun nor is known to be over; `Unknown` is what the table of no accepted plan has.
+#[derive(Clone, Copy, PartialEq, Eq)]
+pub enum Doing {
+    Idle,
+    Done,
+    Running,
+    Waiting,
+    ToSend,
+    ToSet,
+    ToRaise,
+    ToLeave,
+    ToDecide,
+    ToClose,
+    Remembered,
+    Faulted,
+    Undoing,
+    Handling,
+    Stopped,
+    StoppedUndoing,
+    Undone,
+    Unknown,
 }
 
 // What an activity does, in words.
-pub fn put_doing(out: &mut Out, column: bool, doing: usize) {
+fn words_of(doing: Doing) -> &'static [u8] {
     match doing {
-        IDLE => put_said(out, column, b""),
-        DONE => put_said(out, column, b"done"),
-        RUNNING => put_said(out, column, b"running"),
-        REMEMBERED => put_said(out, column, b"closed, remembered"),
-        FAULTED => put_said(out, column, b"faulted"),
-        UNDOING => put_said(out, column, b"undoing"),
-        HANDLING => put_said(out, column, b"handling"),
-        STOPPED => put_said(out, column, b"stopped"),
-        STOPPED_UNDOING => put_said(out, column, b"stopped, undoing"),
-        UNDONE => put_said(out, column, b"being undone"),
-        _ => put_ready(out, column, doing),
+        Doing::Idle => b"",
+        Doing::Done => b"done",
+        Doing::Running => b"running",
+        Doing::Waiting => b"waiting for a message",
+        Doing::ToSend => b"ready to send",
+        Doing::ToSet => b"ready to set",
+        Doing::ToRaise => b"ready to raise",
+        Doing::ToLeave => b"ready to leave",
+        Doing::ToDecide => b"ready to decide",
+        Doing::ToClose => b"done, ready to close",
+        Doing::Remembered => b"closed, remembered",
+        Doing::Faulted => b"faulted",
+        Doing::Undoing => b"undoing",
+        Doing::Handling => b"handling",
+        Doing::Stopped => b"stopped",
+        Doing::StoppedUndoing => b"stopped, undoing",
+        Doing::Undone => b"being undone",
+        Doing::Unknown => b"of an unknown kind",
+    }
+}
+
+// What an activity does, in words: in a column of its own, or as it is.
+pub fn put_doing(out: &mut Out, column: bool, doing: Doing) {
+    if column {
+        out.put_column(words_of(doing));
+    } else {
+        out.put(words_of(doing));
     }
 }
 
 // What has begun and is not over yet: its step, where it awaits one; else that something within it runs.
-fn active_of(kind: u32) -> usize {
+fn active_of(kind: u32) -> Doing {
     match kind {
-        kind::SEND | kind::HELD_SEND => TO_SEND,
-        kind::RECEIVE | kind::ASKING_RECEIVE | kind::PICK => WAITING,
-        kind::SET => TO_SET,
-        kind::RAISE | kind::NUMBERED_RAISE => TO_RAISE,
-        kind::LEAVE => TO_LEAVE,
-        kind::CHOOSE | kind::REPEAT => TO_DECIDE,
-        kind::SEQUENCE | kind::FLOW => RUNNING,
-        kind::SCOPE | kind::OPEN_SCOPE | kind::NUMBERED_SCOPE => RUNNING,
-        _ => UNKNOWN,
+        kind::SEND | kind::HELD_SEND => Doing::ToSend,
+        kind::RECEIVE | kind::ASKING_RECEIVE | kind::PICK => Doing::Waiting,
+        kind::SET => Doing::ToSet,
+        kind::RAISE | kind::NUMBERED_RAISE => Doing::ToRaise,
+        kind::LEAVE => Doing::ToLeave,
+        kind::CHOOSE | kind::REPEAT => Doing::ToDecide,
+        kind::SEQUENCE | kind::FLOW => Doing::Running,
+        kind::SCOPE | kind::OPEN_SCOPE | kind::NUMBERED_SCOPE => Doing::Running,
+        _ => Doing::Unknown,
     }
 }
 
 // What a mark beyond `active` says, whichever fault part it has chosen.
-fn marked_of(mark: u8) -> usize {
+fn marked_of(mark: u8) -> Doing {
     match mark % 16 {
-        2 => RUNNING,
-        3 => TO_CLOSE,
-        4 => FAULTED,
-        5 => UNDOING,
-        6 => HANDLING,
-        7 => STOPPED,
-        _ => STOPPED_UNDOING,
+        2 => Doing::Running,
+        3 => Doing::ToClose,
+        4 => Doing::Faulted,
+        5 => Doing::Undoing,
+        6 => Doing::Handling,
+        7 => Doing::Stopped,
+        _ => Doing::StoppedUndoing,
     }
 }
 
 // An arm has no mark: it is open while its pick is active, and runs where its pick is inside one of its arms and what stands within this one runs. In
 // a stopped body the pick is idle, and its arm with it, though a scope within may run on.
-fn arm_of(table: &Table, marks: &[u8; 256], n: usize) -> usize {
-    let pick = mark_at(marks, parent_of(table, n));
-    if pick == 1 {
-        return WAITING;
+fn arm_of(table: &Table, marks: &[u8; 256], n: usize) -> Doing {
+    match mark_at(marks, parent_of(table, n)) {
+        1 => Doing::Waiting,
+        2 if is_running(marks, n, end_of(table, n)) => Doing::Running,
+        _ => Doing::Idle,
     }
-    if pick == 2 {
-        if is_running(marks, n, end_of(table, n)) {
-            return RUNNING;
-        }
-    }
-    IDLE
 }
 
 // Of a sequence that runs, those that stand before what runs are done.
-fn in_sequence(table: &Table, marks: &[u8; 256], parent: usize, n: usize) -> usize {
-    if mark_at(marks, parent) == 1 {
-        if is_running(marks, end_of(table, n), end_of(table, parent)) {
-            return DONE;
-        }
+fn in_sequence(table: &Table, marks: &[u8; 256], parent: usize, n: usize) -> Doing {
+    if mark_at(marks, parent) == 1 && is_running(marks, end_of(table, n), end_of(table, parent)) {
+        Doing::Done
+    } else {
+        Doing::Idle
     }
-    IDLE
 }
 
 // Of a flow that runs, those that do not run are done.
-fn in_flow(mark: u8) -> usize {
-    if mark == 1 {
-        return DONE;
-    }
-    IDLE
+fn in_flow(mark: u8) -> Doing {
+    if mark == 1 { Doing::Done } else { Doing::Idle }
 }
 
 // The body of a scope with this mark.
-fn body_of(mark: u8) -> usize {
-    if mark == 3 {
-        return DONE;
+fn body_of(mark: u8) -> Doing {
+    match mark {
+        0..=2 => Doing::Idle,
+        3 => Doing::Done,
+        _ => Doing::Stopped,
     }
-    if 3 < mark {
-        return STOPPED;
-    }
-    IDLE
 }
 
 // A part of a scope with this mark.
-fn part_of(mark: u8, body: bool) -> usize {
-    if body {
-        return body_of(mark);
-    }
-    IDLE
+fn part_of(mark: u8, body: bool) -> Doing {
+    if body { body_of(mark) } else { Doing::Idle }
 }
 
 // What is idle: done, stopped, or neither begun nor known to be over.
-fn idle_of(table: &Table, marks: &[u8; 256], root: u8, n: usize) -> usize {
+fn idle_of(table: &Table, marks: &[u8; 256], root: u8, n: usize) -> Doing {
     if n == 0 {
         return body_of(root);
     }
@@ -194,74 +148,53 @@ fn idle_of(table: &Table, marks: &[u8; 256], root: u8, n: usize) -> usize {
         kind::SCOPE | kind::OPEN_SCOPE | kind::NUMBERED_SCOPE => {
             part_of(mark_at(marks, parent), after(parent) == n)
         }
-        _ => IDLE,
+        _ => Doing::Idle,
     }
 }
 
 // Which scope closed, and for what part that is remembered, of the closing in place i.
 pub fn scope_in(order: Order, i: usize) -> usize {
-    if i < 32 {
-        let remembered = order.remembered;
-        let c = remembered[i];
-        return wide(c.scope);
-    }
-    0
+    order
+        .remembered
+        .get(i)
+        .map_or(0, |closing| usize::from(closing.scope))
 }
 
 pub(crate) fn part_in(order: Order, i: usize) -> usize {
-    if i < 32 {
-        let remembered = order.remembered;
-        let c = remembered[i];
-        return wide(c.part);
-    }
-    0
+    order
+        .remembered
+        .get(i)
+        .map_or(0, |closing| usize::from(closing.part))
 }
 
 // Whether the scope n is remembered.
 fn is_remembered(order: Order, n: usize) -> bool {
-    let kept = order.kept;
-    let mut i = 0;
-    while i < 32 {
-        if i < kept {
-            if scope_in(order, i) == n {
-                return true;
-            }
-        }
-        i += 1;
-    }
-    false
+    (0..order.kept.min(32)).any(|i| scope_in(order, i) == n)
 }
 
 // Whether the undo part of scope n runs.
 fn is_undone(table: &Table, marks: &[u8; 256], n: usize) -> bool {
-    if has_undo(entry(table, n, KIND)) {
-        return is_running(marks, undo_of(table, n), end_of(table, n));
-    }
-    false
+    has_undo(entry(table, n, KIND)) && is_running(marks, undo_of(table, n), end_of(table, n))
 }
 
-fn resting_of(table: &Table, marks: &[u8; 256], order: Order, n: usize) -> usize {
+fn resting_of(table: &Table, marks: &[u8; 256], order: Order, n: usize) -> Doing {
     if is_undone(table, marks, n) {
-        return UNDONE;
+        Doing::Undone
+    } else if is_remembered(order, n) {
+        Doing::Remembered
+    } else if entry(table, n, KIND) == kind::ARM {
+        arm_of(table, marks, n)
+    } else {
+        idle_of(table, marks, order.root, n)
     }
-    if is_remembered(order, n) {
-        return REMEMBERED;
-    }
-    if entry(table, n, KIND) == kind::ARM {
-        return arm_of(table, marks, n);
-    }
-    idle_of(table, marks, order.root, n)
 }
 
 // What activity or arm n is doing.
-pub fn doing_of(table: &Table, order: Order, n: usize) -> usize {
+pub fn doing_of(table: &Table, order: Order, n: usize) -> Doing {
     let marks = order.marks;
-    let mark = mark_at(&marks, n);
-    if mark == 0 {
-        return resting_of(table, &marks, order, n);
+    match mark_at(&marks, n) {
+        0 => resting_of(table, &marks, order, n),
+        1 => active_of(entry(table, n, KIND)),
+        mark => marked_of(mark),
     }
-    if mark == 1 {
-        return active_of(entry(table, n, KIND));
-    }
-    marked_of(mark)
 }

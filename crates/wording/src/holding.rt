@@ -22,11 +22,8 @@ fn put_mindful(out: &mut Out, slot: usize, order: Order) {
 }
 
 fn put_mindfuls(out: &mut Out, orders: [Order; 16]) {
-    let mut slot = 0;
-    while slot < 16 {
-        let order = orders[slot];
-        put_mindful(out, slot, order);
-        slot += 1;
+    for (slot, order) in orders.iter().enumerate() {
+        put_mindful(out, slot, *order);
     }
 }
 

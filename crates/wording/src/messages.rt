@@ -9,13 +9,8 @@ fn put_value(out: &mut Out, front: &[u8], value: u32) {
 
 // The first values of a message, each after what stands in front of it.
 fn put_values(out: &mut Out, values: &[u32; 4], count: u32, front: &[u8]) {
-    let few = count as usize;
-    let mut i = 0;
-    while i < 4 {
-        if i < few {
-            put_value(out, front, values[i]);
-        }
-        i += 1;
+    for value in values.iter().take(count as usize) {
+        put_value(out, front, *value);
     }
 }
 
@@ -63,22 +58,15 @@ pub(crate) fn put_taken(
 
 // A message that waits, after those that came before it.
 fn put_another(out: &mut Out, i: usize, m: Message) {
-    if i == 0 {
-        put_message(out, m);
-    } else {
+    if i != 0 {
         out.put(b" |");
-        put_message(out, m);
     }
+    put_message(out, m);
 }
 
 fn put_messages(out: &mut Out, messages: [Message; 64], waiting: usize) {
-    let mut i = 0;
-    while i < 64 {
-        if i < waiting {
-            let m = messages[i];
-            put_another(out, i, m);
-        }
-        i += 1;
+    for (i, m) in messages.iter().enumerate().take(waiting) {
+        put_another(out, i, *m);
     }
 }
 

@@ -43,20 +43,13 @@ fn put_step(out: &mut Out, x: u64) {
 
 // A choice as `list` takes it; no offer has so many that one is beyond it.
 fn choice_of(x: usize) -> u32 {
-    if x < 4294967296 {
-        return x as u32;
-    }
-    4294967295
+    u32::try_from(x).unwrap_or(u32::MAX)
 }
 
 // The steps of a window, as numbers.
 fn put_window(out: &mut Out, window: &[u64; 256], many: usize) {
-    let mut i: usize = 0;
-    while i < 256 {
-        if i < many {
-            put_step(out, window[i]);
-        }
-        i += 1;
+    for x in window.iter().take(many) {
+        put_step(out, *x);
     }
 }
 
@@ -69,12 +62,9 @@ fn put_from(out: &mut Out, state: State, first: u32, many: usize) {
 
 // The steps as numbers, window by window: to ask for each by itself takes a pass over the offer each time.
 fn put_steps(out: &mut Out, state: State, many: usize) {
-    let mut left = many;
-    while left > 256 {
-        put_from(out, state, choice_of(many - left), 256);
-        left -= 256;
+    for start in (0..many).step_by(256) {
+        put_from(out, state, choice_of(start), (many - start).min(256));
     }
-    put_from(out, state, choice_of(many - left), left);
 }
 
 // All that is offered, as numbers.
@@ -160,20 +150,16 @@ fn put_worded(
     first: u32,
     many: usize,
 ) {
-    let mut i: usize = 0;
-    while i < 256 {
-        if i < many {
-            put_choice(
-                out,
-                names,
-                table,
-                flags,
-                state,
-                first as u64 + i as u64,
-                window[i],
-            );
-        }
-        i += 1;
+    for (i, x) in window.iter().enumerate().take(many) {
+        put_choice(
+            out,
+            names,
+            table,
+            flags,
+            state,
+            u64::from(first) + i as u64,
+            *x,
+        );
     }
 }
 
@@ -201,20 +187,17 @@ fn put_choices(
     state: State,
     many: usize,
 ) {
-    let mut left = many;
-    while left > 256 {
-        put_worded_from(out, names, table, flags, state, choice_of(many - left), 256);
-        left -= 256;
+    for start in (0..many).step_by(256) {
+        put_worded_from(
+            out,
+            names,
+            table,
+            flags,
+            state,
+            choice_of(start),
+            (many - start).min(256),
+        );
     }
-    put_worded_from(
-        out,
-        names,
-        table,
-        flags,
-        state,
-        choice_of(many - left),
-        left,
-    );
 }
 
 // All that is offered, in words; where something is held, what has no room left; and a blank line.

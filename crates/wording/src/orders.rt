@@ -68,13 +68,13 @@ fn put_values(
     bound: &[u8; 16],
     values: &[u32; 16],
 ) {
-    let few = variables as usize;
-    let mut i = 0;
-    while i < 16 {
-        if i < few {
-            put_variable(out, names, correlation, i, bound[i], values[i]);
-        }
-        i += 1;
+    for (i, (is_bound, value)) in bound
+        .iter()
+        .zip(values)
+        .enumerate()
+        .take(variables as usize)
+    {
+        put_variable(out, names, correlation, i, *is_bound, *value);
     }
 }
 
@@ -104,18 +104,12 @@ fn put_closing(out: &mut Out, names: &[u8; 16896], table: &Table, n: usize, part
 
 // An order's closings, oldest first.
 fn put_closings(out: &mut Out, names: &[u8; 16896], table: &Table, order: Order) {
-    let kept = order.kept;
-    if kept == 0 {
+    if order.kept == 0 {
         out.put(b"none");
-    } else {
-        let mut i = 0;
-        while i < 32 {
-            if i < kept {
-                put_between(out, i);
-                put_closing(out, names, table, scope_in(order, i), part_in(order, i));
-            }
-            i += 1;
-        }
+    }
+    for i in 0..order.kept.min(32) {
+        put_between(out, i);
+        put_closing(out, names, table, scope_in(order, i), part_in(order, i));
     }
 }
 
@@ -129,10 +123,8 @@ fn put_faulted(out: &mut Out, names: &[u8; 16896], table: &Table, n: usize, mark
 
 // The scopes of an order with these marks that faulted and are not over, each with its fault.
 fn put_all_faulted(out: &mut Out, names: &[u8; 16896], table: &Table, marks: &[u8; 256]) {
-    let mut n = 0;
-    while n < 256 {
-        put_faulted(out, names, table, n, marks[n]);
-        n += 1;
+    for (n, mark) in marks.iter().enumerate() {
+        put_faulted(out, names, table, n, *mark);
     }
 }
 
@@ -173,26 +165,9 @@ fn put_order_line(
     out.put_byte(b'\n');
 }
 
-fn with_live(live: u64, root: u8) -> u64 {
-    if root == 0 {
-        return live;
-    }
-    if live < 16 {
-        return live + 1;
-    }
-    live
-}
-
 // How many orders are live.
 pub fn live_of(orders: [Order; 16]) -> u64 {
-    let mut live = 0;
-    let mut slot = 0;
-    while slot < 16 {
-        let order = orders[slot];
-        live = with_live(live, order.root);
-        slot += 1;
-    }
-    live
+    orders.iter().filter(|order| order.root != 0).count() as u64
 }
 
 fn put_order_lines(
@@ -206,11 +181,8 @@ fn put_order_lines(
     out.put(b"orders");
     out.put_next(live_of(orders));
     out.put_byte(b'\n');
-    let mut slot = 0;
-    while slot < 16 {
-        let order = orders[slot];
-        put_order_line(out, names, table, correlation, variables, slot, order);
-        slot += 1;
+    for (slot, order) in orders.iter().enumerate() {
+        put_order_line(out, names, table, correlation, variables, slot, *order);
     }
     out.put_byte(b'\n');
 }
@@ -257,10 +229,8 @@ fn put_doing_lines(
     activities: usize,
     order: Order,
 ) {
-    let mut n = 0;
-    while n < activities {
+    for n in 0..activities {
         put_doing_line(out, names, table, correlation, order, n);
-        n += 1;
     }
 }
 

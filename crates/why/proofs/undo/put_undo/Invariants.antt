@@ -1,9 +1,0 @@
--- `why::undo::put_undo` is safe and ends. The measure is what is left to go through. Assumes nothing.
-use Prim.Native.Nat.{◌-◌}
-use Rattle.why.proofs.undo.put_undo.Given as goal
-
-abbrev pub invariant-loop-i : goal.invariant-loop-i
-invariant-loop-i l = Unit {0}
-
-abbrev pub decreases-loop-i : goal.decreases-loop-i
-decreases-loop-i l = 32 - l.i

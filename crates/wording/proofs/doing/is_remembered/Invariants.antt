@@ -1,9 +1,0 @@
--- `wording::doing::is_remembered` is safe and ends. The measure is what is left of the closings. Assumes nothing.
-use Prim.Native.Nat.{◌-◌}
-use Rattle.wording.proofs.doing.is_remembered.Given as goal
-
-abbrev pub invariant-loop-i : goal.invariant-loop-i
-invariant-loop-i l = Unit {0}
-
-abbrev pub decreases-loop-i : goal.decreases-loop-i
-decreases-loop-i l = 32 - l.i

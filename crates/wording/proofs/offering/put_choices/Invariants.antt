@@ -1,9 +1,0 @@
--- `wording::offering::put_choices` is safe and ends. The measure is what is left of the offer. Assumes nothing.
-use Prim.Native.Nat.{◌≤◌}
-use Rattle.wording.proofs.offering.put_choices.Given as goal
-
-abbrev pub invariant-loop-left : goal.invariant-loop-left
-invariant-loop-left l = l.left ≤ l.many
-
-abbrev pub decreases-loop-left : goal.decreases-loop-left
-decreases-loop-left l = l.left
