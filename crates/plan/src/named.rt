@@ -22,14 +22,7 @@ pub(crate) fn is_among(x: u32, numbers: [u32; 8], k: usize) -> bool
     requires { k ≤ 8 }
     ensures { result ≡ among x (backwards k numbers) }
 {
-    let mut i = k;
-    while i > 0 {
-        i -= 1;
-        if x == numbers[i] {
-            return true;
-        }
-    }
-    false
+    numbers[..k].iter().any(|n| x == *n)
 }
 
 // The number at `at`, of the fault part behind those with the first k.

@@ -13,7 +13,7 @@ pub returns-then-not-is_among : goal.returns-then-not-is_among
 returns-then-not-is_among c = search (cases, c.in_ok-read.was)
 
 pub returns : goal.returns
-returns c = 
+returns c =
     let e = c.number_at.ensures.is in
     record {
       is = elim c.else-is_namable.branch [

@@ -9,7 +9,7 @@ pub returns-then-s-gt4096 : goal.returns-then-s-gt4096
 returns-then-s-gt4096 c = search cases
 
 pub flagged_at-requires : goal.flagged_at-requires
-flagged_at-requires c = search (cases, c.in_ok-version.was, c.in_ok-vars.was)
+flagged_at-requires c = search (cases, c.in_ok-vars.was)
 
 pub returns-in_err-version : goal.returns-in_err-version
 returns-in_err-version c = rw (returned c.from_residual.ensures.1) (search (cases, c.in_err-version.was))
