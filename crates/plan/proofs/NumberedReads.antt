@@ -1,15 +1,12 @@
 -- The returns of the functions that read a scope with fault parts by number, and what their calls may count on. Assumes nothing.
 use mathlib.Core.Path.{◌≡◌, refl, sym, ap, ◌∙◌}
-use Rattle.std.specs.List.{list_any}
-use Rattle.std.proofs.lemmas.List.Folds.{list_any_more}
-use mathlib.Core.Bool.{◌||◌, Bool, true, false}
+use mathlib.Core.Bool.{Bool, true, false}
 use mathlib.Core.List.{List, [], ◌∷◌, ◌++◌, map}
 use Prim.Native.Nat.{ℕ, zero, suc, ◌+◌, ◌-◌, ◌<◌, ◌≤◌}
 use native.Mathlib.Nat.{add-zero, zero-add, add_assoc}
 use native.Mathlib.Numerals.{add-one, sub-one}
 use native.Mathlib.Omega.{arith}
-use lib.Dec.{eqb}
-use lib.ListN.{length, get_or, set, replicate, length-append, take}
+use lib.ListN.{length, set, replicate, length-append}
 use lib.Seq.{get_or-set_same, get_or-set_other}
 use mir.Syntax.{w64}
 use mir.Val.{Fits}
@@ -48,21 +45,6 @@ backwards-set (suc k) l j x h = rw (get_or-set_other l j k x 0 (λ e. omega arit
 pub number_behind : (l : List ℕ) (k x : ℕ) → k < length l → backwards (k + 1) (set l k x) ≡ x ∷ backwards k l
 unfolding backwards
 number_behind l k x h = rw (add-one k, get_or-set_same l k x 0 h, backwards-set k l k x (omega arith))
-
--- `is_among`
-or-swap : (a b : Bool) → (a || b) ≡ (b || a)
-or-swap true true = refl
-or-swap true false = refl
-or-swap false true = refl
-or-swap false false = refl
-
-pub among-any : (x : ℕ) (l : List ℕ) (k : ℕ) → k ≤ length l → list_any (λ y. eqb x y) (take k l) ≡ among x (backwards k l)
-unfolding backwards among
-among-any x l zero h = refl
-among-any x l (suc k) h =
-    let e : list_any (λ y. eqb x y) (take (suc k) l) ≡ (list_any (λ y. eqb x y) (take k l) || eqb x (get_or l k 0)) =
-    rw (add-one k) at (list_any_more (λ y. eqb x y) l k 0 (omega arith)) in
-    e ∙ or-swap (list_any (λ y. eqb x y) (take k l)) (eqb x (get_or l k 0)) ∙ ap (λ b. eqb x (get_or l k 0) || b) (among-any x l k (omega arith))
 
 -- `fault_number_at`
 module _ {r : Result Number Refusal} (s : List ℕ) (l : List ℕ) (k at : ℕ) (e : r ≡ field_of (number_in s at)) where

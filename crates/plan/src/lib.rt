@@ -22,6 +22,7 @@ ghost use Rattle.plan.specs.Read.{read_plan};
 use table::{LENGTH, Table};
 
 // The reading head: the lent bytes and a place in them.
+// Stays: (a) docs/DECISIONS.md names it as what every number of a plan is read through.
 #[derive(Clone, Copy)]
 pub struct Head<'a> {
     pub bytes: &'a [u8],

@@ -17,14 +17,6 @@ fn is_namable(x: u32) -> bool
     x <= 5 || 16 <= x && x <= 255
 }
 
-// Whether a number is among the first k.
-pub(crate) fn is_among(x: u32, numbers: [u32; 8], k: usize) -> bool
-    requires { k ≤ 8 }
-    ensures { result ≡ among x (backwards k numbers) }
-{
-    numbers[..k].iter().any(|n| x == *n)
-}
-
 // The number at `at`, of the fault part behind those with the first k.
 pub(crate) fn fault_number_at(
     s: &[u8],
@@ -37,7 +29,7 @@ pub(crate) fn fault_number_at(
     ensures fits { NumberFits s.now at result }
 {
     let read = number_at(s, at)?;
-    if is_namable(read.value) && !is_among(read.value, numbers, k) {
+    if is_namable(read.value) && !numbers[..k].contains(&read.value) {
         return Ok(read);
     }
     Err(Refusal {

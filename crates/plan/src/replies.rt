@@ -9,7 +9,6 @@ ghost use Rattle.plan.specs.Read.{held_send_in, asking_receive_in};
 ghost use Rattle.plan.specs.Store.{chosen};
 
 use super::fields::field_at;
-use super::named::is_among;
 use super::owns::exchange_own;
 use super::table::{COUNT, REPLY, Table, VARIABLE, VARIABLES, WIDTH, write_column};
 use super::{Own, Refusal, kind};
@@ -68,8 +67,7 @@ fn spoken_for(table: &[u32], n: usize, variable: u32, correlation: &[u8; 16]) ->
     requires { ((n < 256) × (variable < 16)) × ((length table.now ≡ 11584) × (get_or table.now (n * 13 + 3) 0 ≤ 4)) }
     ensures { result ≡ (among variable (chosen 0 correlation.now) || among variable (named table.now n)) }
 {
-    let i = variable as usize;
-    if correlation[i] == 1 {
+    if correlation[variable as usize] == 1 {
         return true;
     }
     let b = n * WIDTH;
@@ -83,7 +81,7 @@ fn spoken_for(table: &[u32], n: usize, variable: u32, correlation: &[u8; 16]) ->
         0,
         0,
     ];
-    is_among(variable, others, table[b + COUNT] as usize)
+    others[..table[b + COUNT] as usize].contains(&variable)
 }
 
 // The variable that stores the reply partner of the receive of row n.
