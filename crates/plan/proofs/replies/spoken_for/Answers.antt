@@ -14,5 +14,5 @@ returns-then-correlation-variable-eq1 c = search cases
 
 pub returns : goal.returns
 returns c =
-    for-no-correlation c.args.variable c.args.correlation.now _ c.if-correlation-variable-eq1.false
-    (c.contains.ensures.value ∙ among-listed c.args.variable _ (get_or c.args.table.now (c.args.n * 13 + 3) 0) (omega (arith, c.requires.1.1)))
+    let j = c.contains.ensures.value ∙ among-listed c.args.variable _ (get_or c.args.table.now (c.args.n * 13 + 3) 0) (omega (arith, c.requires.1.1)) in
+    search (cases, j)
