@@ -28,23 +28,6 @@ module _ (t : List ℕ) (f p o m q : ℕ) {v : ℕ} (x : v ≡ get_or t (pair_of
       unfolding heard
       hear-later e = rw (← x, ne_eqb v 0 n, ne_eqb v m d, ne_eqb f 0 e)
 
--- `ahead`
-pub ahead-receive : (kind : ℕ) → kind ≡ 2 → 3 ≡ ahead_of kind
-unfolding ahead_of
-ahead-receive kind e = rw e
-
-pub ahead-asking : (kind : ℕ) → kind ≡ 18 → 3 ≡ ahead_of kind
-unfolding ahead_of
-ahead-asking kind e = rw e
-
-pub ahead-arm : (kind : ℕ) → kind ≡ 255 → 2 ≡ ahead_of kind
-unfolding ahead_of
-ahead-arm kind e = rw e
-
-pub ahead_none : (kind : ℕ) → (kind ≡ 2 → ⊥) → (kind ≡ 18 → ⊥) → (kind ≡ 255 → ⊥) → 0 ≡ ahead_of kind
-unfolding ahead_of
-ahead_none kind n l m = rw (ne_eqb kind 2 n, ne_eqb kind 18 l, ne_eqb kind 255 m)
-
 -- `hear_row`
 module _ (t : List ℕ) (k : ℕ) {kind skip : ℕ} (a : kind ≡ get_or t (k * 13 + 0) 0) (b : skip ≡ ahead_of kind) (s : Noted) where
   pub row-silent : skip ≤ 0 → s ≡ heard_all (row_asked t k) s
