@@ -9,8 +9,8 @@ use Rattle.std.specs.Prelude.{Result, Ok, Err}
 use Rattle.plan.specs.declared.Accepted.{Accepted}
 use Rattle.plan.specs.declared.Refusal.{Refusal}
 use Rattle.plan.specs.Agree.{asked, judged}
-use Rattle.plan.specs.Answers.{refusal, accepted, answer_of, PlanPut, PlanRead}
-use Rattle.plan.specs.Found.{Found, refused, found, and_then}
+use Rattle.plan.specs.Answers.{refusal, answer_of, PlanPut, PlanRead}
+use Rattle.plan.specs.Found.{Found, refused, found}
 use Rattle.plan.specs.Heard.{rows_asked, differing}
 use Rattle.plan.specs.Read.{read_any, read_plan}
 use Rattle.plan.specs.Table.{table_over}

@@ -1,14 +1,12 @@
 -- What is accepted is what is read and agrees: the laws of refusal 21. Assumes nothing.
 use borrow.Author.Tests.{eqb-true, eq-eqb}
 use native.Mathlib.Omega.{arith}
-use mathlib.Core.Path.{◌≡◌, refl, sym, ap, ◌∙◌}
-use mathlib.Core.Bool.{Bool, true, false, cond, not, ◌&&◌, ◌||◌}
+use mathlib.Core.Path.{◌≡◌, refl, sym}
+use mathlib.Core.Bool.{Bool, true, false, cond}
 use mathlib.Core.List.{List, [], ◌∷◌}
-use mathlib.Core.Logic.{◌↔◌}
 use Prim.Native.Nat.{ℕ}
-use lib.Dec.{eqb}
 use lib.ListN.{length}
-use Rattle.plan.specs.Agree.{Asked, asked, same_pair, agrees, agrees_with, agree_after, agree, judged}
+use Rattle.plan.specs.Agree.{Asked, asked, agrees, agrees_with, agree_after, agree, judged}
 use Rattle.plan.specs.Found.{Found, refused, found, and_then}
 use Rattle.plan.specs.Read.{read_any, read_plan}
 use Rattle.plan.specs.Spell.{spelling}

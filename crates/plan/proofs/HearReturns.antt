@@ -1,13 +1,10 @@
 -- The returns of the functions that find receives that disagree. Assumes nothing.
 use borrow.Author.Tests.{eq-eqb, ne_eqb}
 use native.Mathlib.Omega.{arith}
-use native.Mathlib.Numerals.{add-one}
 use mathlib.Core.Path.{◌≡◌, refl, sym, ap, ◌∙◌}
-use mathlib.Core.Bool.{Bool, true, false, cond}
 use mathlib.Core.List.{List, [], ◌∷◌, ◌++◌}
-use Prim.Native.Nat.{ℕ, zero, suc, ◌+◌, ◌-◌, ◌*◌, ◌%◌, ◌≤◌, ◌<◌}
-use lib.Dec.{eqb}
-use lib.ListN.{length, get_or, set, replicate}
+use Prim.Native.Nat.{ℕ, suc, ◌+◌, ◌-◌, ◌*◌, ◌%◌, ◌≤◌, ◌<◌}
+use lib.ListN.{get_or, set}
 use Rattle.plan.specs.Agree.{Asked, asking}
 use Rattle.plan.specs.Heard.{Noted, noted, blank_heard, pair_of, heard, heard_all, ahead_of, row_asked, rows_asked, differing}
 
@@ -30,23 +27,6 @@ module _ (t : List ℕ) (f p o m q : ℕ) {v : ℕ} (x : v ≡ get_or t (pair_of
       pub hear-later : (f ≡ 0 → ⊥) → noted t f ≡ heard (asking p o m q) (noted t f)
       unfolding heard
       hear-later e = rw (← x, ne_eqb v 0 n, ne_eqb v m d, ne_eqb f 0 e)
-
--- `ahead`
-pub ahead-receive : (kind : ℕ) → kind ≡ 2 → 3 ≡ ahead_of kind
-unfolding ahead_of
-ahead-receive kind e = rw e
-
-pub ahead-asking : (kind : ℕ) → kind ≡ 18 → 3 ≡ ahead_of kind
-unfolding ahead_of
-ahead-asking kind e = rw e
-
-pub ahead-arm : (kind : ℕ) → kind ≡ 255 → 2 ≡ ahead_of kind
-unfolding ahead_of
-ahead-arm kind e = rw e
-
-pub ahead_none : (kind : ℕ) → (kind ≡ 2 → ⊥) → (kind ≡ 18 → ⊥) → (kind ≡ 255 → ⊥) → 0 ≡ ahead_of kind
-unfolding ahead_of
-ahead_none kind n l m = rw (ne_eqb kind 2 n, ne_eqb kind 18 l, ne_eqb kind 255 m)
 
 -- `hear_row`
 module _ (t : List ℕ) (k : ℕ) {kind skip : ℕ} (a : kind ≡ get_or t (k * 13 + 0) 0) (b : skip ≡ ahead_of kind) (s : Noted) where

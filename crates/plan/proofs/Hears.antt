@@ -1,14 +1,14 @@
 -- One pass finds the first count that differs from an earlier one for its pair. Assumes nothing.
 use borrow.Author.Tests.{eqb-true, eqb-false, eq-eqb, ne_eqb}
 use native.Mathlib.Omega.{arith}
-use mathlib.Core.Path.{◌≡◌, refl, sym, ap, ◌∙◌}
-use mathlib.Core.Bool.{Bool, true, false, cond, not, ◌&&◌, ◌||◌}
+use mathlib.Core.Path.{◌≡◌, refl, sym, ◌∙◌}
+use mathlib.Core.Bool.{Bool, true, false, not, ◌&&◌, ◌||◌}
 use mathlib.Core.List.{List, [], ◌∷◌, ◌++◌}
-use Prim.Native.Nat.{ℕ, ◌+◌, ◌*◌, ◌%◌, ◌≤◌, ◌<◌}
+use Prim.Native.Nat.{ℕ, ◌%◌, ◌≤◌, ◌<◌}
 use lib.Dec.{eqb}
-use lib.ListN.{length, get_or, set, replicate, length-replicate, get_or-replicate, length-set}
+use lib.ListN.{length, get_or, set, length-replicate, get_or-replicate, length-set}
 use lib.Seq.{get_or-set_same, get_or-set_other}
-use Rattle.plan.specs.Agree.{Asked, same_pair, agrees, agrees_with, judged}
+use Rattle.plan.specs.Agree.{Asked, agrees, agrees_with, judged}
 use Rattle.plan.specs.Found.{Found, refused}
 use Rattle.plan.specs.Heard.{Noted, noted, blank_heard, pair_of, heard, heard_all, differing}
 use Rattle.plan.proofs.Agreeing.{Among, here, later}

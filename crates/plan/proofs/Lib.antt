@@ -15,6 +15,7 @@ pub mod ExpressionReads
 pub mod OwnReads
 pub mod ReplyReads
 pub mod Stores
+pub mod Listed
 pub mod TableLong
 pub mod TupleReads
 pub mod HeadReads

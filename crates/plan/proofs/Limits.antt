@@ -1,5 +1,5 @@
 -- What is accepted as a plan is a plan within the limits. Assumes nothing.
-use borrow.Author.Tests.{ltb-false, leb-false, eqb-true, eqb-false, not-true, not-false, lt-ltb, le-leb, eq-eqb, ne_eqb}
+use borrow.Author.Tests.{ltb-false, eqb-true, eqb-false, not-true, not-false, lt-ltb, le-leb, eq-eqb, ne_eqb}
 use native.Mathlib.Omega.{arith}
 use native.Mathlib.Numerals.{sub-one}
 use mathlib.Core.Path.{◌≡◌, refl, sym, ◌∙◌}
@@ -20,15 +20,15 @@ use Rattle.plan.specs.Agree.{agree}
 use Rattle.plan.specs.Found.{Found, found, found_number, number_in, field_in, among}
 use Rattle.plan.specs.Read.{expression_code_in, leaf_in, expression_in, variables_in, tuple_in, Head, head, exchange_in, arm_in, partner_in, held_send_in, asking_receive_in, with_expression_in, set_in, list_in, raise_in, namable, fault_number_in, is_code, is_scope_code, code_in, parts_in, head_in, many_in, Numbered, numbered_in, numbered_scope_in, whole_in, read_arm, reads_in, later_of, read_act, start_form, correlation_in, version_in, root_in, read_any, read_plan}
 use Rattle.plan.specs.Spell.{spelling}
-use Rattle.plan.specs.Tree.{Exp, Own, to_partner, to_held, from_partner, from_asking, send, receive, set, choose, repeat, sequence, flow, pick, scope, arm, kind, Act, act, Acts, more, Plan, size, count, is_pick, is_scope}
+use Rattle.plan.specs.Tree.{Exp, Own, to_partner, from_partner, send, receive, set, choose, repeat, sequence, flow, pick, arm, kind, Act, Plan, size, count, is_pick, is_scope}
 use Rattle.plan.specs.Within.{expression_within, variables_within, exchange_within, from1, raise_within, numbers_each, numbers_within, own_within, act_within, acts_within, ascending, plan_within}
 use Rattle.plan.proofs.Accepts.{both, among-append, reader, spelled-is-read}
 use Rattle.plan.proofs.Agreeing.{accepted-any, accepted-agrees, spelled-is-accepted}
 use Rattle.plan.proofs.Finds.{Finds, finds-refused, finds-itself, finds-found, finds-cond, finds-code, finds-then, finds-both, finds-so}
-use Rattle.plan.proofs.Stands.{neither, field-within, Plain, HeadIs, plain, numbered, arm_plain, head-is, Reads, many-count, NumberedStands, numbered-stands, act-stands, plan-stands}
+use Rattle.plan.proofs.Stands.{neither, field-within, HeadIs, plain, numbered, arm_plain, head-is, Reads, many-count, numbered-stands, act-stands, plan-stands}
 use Rattle.plan.proofs.Spelled.{accepted-is-spelled}
 use Rattle.plan.proofs.Bounds.{act-numbered}
-use Rattle.plan.proofs.ByKind.{raise-allowed, last_code}
+use Rattle.plan.proofs.ByKind.{raise-allowed}
 
 small-number : (s : List ℕ) (at : ℕ) (r : Result Number Trouble) → number_at s at ≡ r → Finds (λ v next. v ≤ 4294967295) (found_number s at r)
 small-number s at (Err Short) e = finds-refused

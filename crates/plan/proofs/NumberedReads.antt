@@ -1,22 +1,22 @@
 -- The returns of the functions that read a scope with fault parts by number, and what their calls may count on. Assumes nothing.
 use mathlib.Core.Path.{◌≡◌, refl, sym, ap, ◌∙◌}
-use mathlib.Core.Bool.{Bool, true, false, not, ◌&&◌}
+use mathlib.Core.Bool.{Bool, true, false}
 use mathlib.Core.List.{List, [], ◌∷◌, ◌++◌, map}
 use Prim.Native.Nat.{ℕ, zero, suc, ◌+◌, ◌-◌, ◌<◌, ◌≤◌}
 use native.Mathlib.Nat.{add-zero, zero-add, add_assoc}
 use native.Mathlib.Numerals.{add-one, sub-one}
 use native.Mathlib.Omega.{arith}
-use borrow.Author.Tests.{eq-eqb, ne_eqb}
-use lib.ListN.{length, get_or, set, replicate, length-append}
+use lib.ListN.{length, set, replicate, length-append}
 use lib.Seq.{get_or-set_same, get_or-set_other}
 use mir.Syntax.{w64}
 use mir.Val.{Fits}
 use Rattle.numbers.specs.Shortest.{shortest, spelled as groups}
-use Rattle.plan.specs.declared.Field.{Field}
-use Rattle.plan.specs.declared.Field.TheVariants.{Got}
 use Rattle.plan.specs.declared.Out.{Out}
 use Rattle.plan.specs.declared.Own as code
-use Rattle.plan.specs.Answers.{field_of, OwnRead, ActRead, out_all, PutAll, ActsRead, NumberedIs, NumberedPut, NumberedRead}
+use Rattle.std.specs.Prelude.{Result, Ok, Err}
+use Rattle.numbers.specs.declared.Number.{Number}
+use Rattle.plan.specs.declared.Refusal.{Refusal}
+use Rattle.plan.specs.Answers.{out, refusal, field_of, OwnRead, ActRead, out_all, PutAll, ActsRead, NumberedIs, NumberedPut, NumberedRead}
 use Rattle.plan.specs.Fits.{NumberFits, FieldFits, weigh, weigh_scope, weigh_parts}
 use Rattle.plan.specs.Found.{Found, refused, found, and_then, number_in, field_in, among}
 use Rattle.plan.specs.Nodes.{Base, ScopeRoom, NumbersRoom, node_head_in, node_in}
@@ -46,67 +46,38 @@ pub number_behind : (l : List ℕ) (k x : ℕ) → k < length l → backwards (k
 unfolding backwards
 number_behind l k x h = rw (add-one k, get_or-set_same l k x 0 h, backwards-set k l k x (omega arith))
 
--- `is_among`: of those that are left, i of them, the last is looked at next
-module _ (l : List ℕ) (x k i : ℕ) (e : among x (backwards k l) ≡ among x (backwards i l)) where
-  pub among-found : 0 < i → x ≡ get_or l (i - 1) 0 → true ≡ among x (backwards k l)
-  unfolding backwards among
-  among-found h o = sym (e ∙ go i h o)
-    where
-      go : (j : ℕ) → 0 < j → x ≡ get_or l (j - 1) 0 → among x (backwards j l) ≡ true
-      go zero h o = absurd (omega arith)
-      go (suc j) h o = rw (eq-eqb x (get_or l j 0) (rw (sub-one (suc j)) at o))
-
-  pub among-on : 0 < i → (x ≡ get_or l (i - 1) 0 → ⊥) → among x (backwards k l) ≡ among x (backwards (i - 1) l)
-  unfolding backwards among
-  among-on h o = e ∙ go i h o
-    where
-      go : (j : ℕ) → 0 < j → (x ≡ get_or l (j - 1) 0 → ⊥) → among x (backwards j l) ≡ among x (backwards (j - 1) l)
-      go zero h o = absurd (omega arith)
-      go (suc j) h o = rw (ne_eqb x (get_or l j 0) (rw (sub-one (suc j)) at o), sub-one (suc j))
-
-  pub among-over : i ≤ 0 → false ≡ among x (backwards k l)
-  unfolding backwards among
-  among-over h = let z : i ≡ 0 = omega arith in sym (e ∙ rw z)
-
--- `may_have`
-module _ (l : List ℕ) (x k : ℕ) {a : Bool} (i : a ≡ namable x) where
-  pub may-never : a ≡ false → false ≡ (namable x && not (among x (backwards k l)))
-  may-never t = rw (sym i ∙ t)
-
-  module _ (t : a ≡ true) {b : Bool} (j : b ≡ among x (backwards k l)) where
-    pub may-not : b ≡ true → false ≡ (namable x && not (among x (backwards k l)))
-    may-not u = rw (sym i ∙ t, sym j ∙ u)
-
-    pub may : b ≡ false → true ≡ (namable x && not (among x (backwards k l)))
-    may u = rw (sym i ∙ t, sym j ∙ u)
-
 -- `fault_number_at`
-module _ {r : Field} (s : List ℕ) (l : List ℕ) (k at : ℕ) (e : r ≡ field_of (number_in s at)) where
-  pub fault-number-handed : {number place : ℕ} → r ≡ Field.Refused number place → r ≡ field_of (fault_number_in s (backwards k l) at)
+module _ {r : Result Number Refusal} (s : List ℕ) (l : List ℕ) (k at : ℕ) (e : r ≡ field_of (number_in s at)) where
+  pub fault-number-handed : {y : Refusal} → r ≡ Err y → Err y ≡ field_of (fault_number_in s (backwards k l) at)
   unfolding fault_number_in
   fault-number-handed o = handed (number_in s at) _ e o
 
-  module _ {value next : ℕ} (o : r ≡ Got value next) {b : Bool} (i : b ≡ (namable value && not (among value (backwards k l)))) where
-    pub fault-number-good : b ≡ true → Got value next ≡ field_of (fault_number_in s (backwards k l) at)
-    unfolding fault_number_in field_of
-    fault-number-good t = rw (field-got (number_in s at) e o, sym i ∙ t)
-
-    pub fault-number-bad : b ≡ false → Field.Refused 5 at ≡ field_of (fault_number_in s (backwards k l) at)
+  module _ {read : Number} (o : r ≡ Ok read) {a : Bool} (i : a ≡ namable read.value) where
+    pub fault-number-bad : a ≡ false → Err (refusal 5 at) ≡ field_of (fault_number_in s (backwards k l) at)
     unfolding fault_number_in field_of
     fault-number-bad t = rw (field-got (number_in s at) e o, sym i ∙ t)
 
+    module _ {b : Bool} (j : b ≡ among read.value (backwards k l)) where
+      pub fault-number-good : a ≡ true → b ≡ false → Ok read ≡ field_of (fault_number_in s (backwards k l) at)
+      unfolding fault_number_in field_of
+      fault-number-good t u = rw (field-got (number_in s at) e o, sym i ∙ t, sym j ∙ u)
+
+      pub fault-number-known : a ≡ true → b ≡ true → Err (refusal 5 at) ≡ field_of (fault_number_in s (backwards k l) at)
+      unfolding fault_number_in field_of
+      fault-number-known t u = rw (field-got (number_in s at) e o, sym i ∙ t, sym j ∙ u)
+
 -- What reading comes to, where what is found is known, and the other way round.
 module _ (l : List ℕ) (k row place at n m : ℕ) where
-  numbers-refused : (g : Found Numbered) (t u : List ℕ) {number q : ℕ} → g ≡ refused number q → NumberedRead g l k row place at n m (Out.Refused number q) t u
+  numbers-refused : (g : Found Numbered) (t u : List ℕ) {number q : ℕ} → g ≡ refused number q → NumberedRead g l k row place at n m (Err (refusal number q)) t u
   unfolding NumberedIs NumberedPut
   numbers-refused g t u e = rw e (record { is = refl; put = tt })
 
-  numbers-no : (g : Found Numbered) {r : Out} {t u : List ℕ} {number q : ℕ} → NumberedRead g l k row place at n m r t u → r ≡ Out.Refused number q → g ≡ refused number q
+  numbers-no : (g : Found Numbered) {r : Result Out Refusal} {t u : List ℕ} {y : Refusal} → NumberedRead g l k row place at n m r t u → r ≡ Err y → g ≡ refused y.number y.place
   unfolding NumberedIs
   numbers-no (refused x p) a o = let i = a.is in cc
   numbers-no (found x p) a o = let i = a.is.1.1 in let z : ◌≡◌ {A = ℕ} 0 1 = cc in absurd (omega arith)
 
-numbers_as : (l : List ℕ) (k row place at n m : ℕ) {g h : Found Numbered} {r : Out} {t u : List ℕ} → g ≡ h → NumberedRead g l k row place at n m r t u
+numbers_as : (l : List ℕ) (k row place at n m : ℕ) {g h : Found Numbered} {r : Result Out Refusal} {t u : List ℕ} → g ≡ h → NumberedRead g l k row place at n m r t u
     → NumberedRead h l k row place at n m r t u
 numbers_as l k row place at n m e b = rw e at b
 
@@ -117,17 +88,17 @@ record PartsRead (g : Found Numbered) (l : List ℕ) (k row place at n m next en
   last-is : last ≡ m + nodes_all c.parts
   put_is : u ≡ put_all (map one c.numbers) c.parts at n m (put_row row (numbers_row (store c.numbers 0 k l) (k + length c.numbers) place) t)
 
-numbers-got : (l : List ℕ) (k row place at n m : ℕ) (g : Found Numbered) {r : Out} {t u : List ℕ} {next end last : ℕ} {first every : Bool}
-    → NumberedRead g l k row place at n m r t u → r ≡ Out.Read next end last first every → PartsRead g l k row place at n m next end last t u
+numbers-got : (l : List ℕ) (k row place at n m : ℕ) (g : Found Numbered) {r : Result Out Refusal} {t u : List ℕ} {y : Out}
+    → NumberedRead g l k row place at n m r t u → r ≡ Ok y → PartsRead g l k row place at n m y.next y.count y.nodes t u
 unfolding NumberedIs NumberedPut
 numbers-got l k row place at n m (refused x p) b o = let i = b.is in let z : ◌≡◌ {A = ℕ} 0 1 = cc in absurd (omega arith)
-numbers-got l k row place at n m (found x q) {next = next} b o =
+numbers-got l k row place at n m (found x q) {y = y} b o =
     let i = b.is.1.1 in
-    let j : next ≡ q = cc in
+    let j : y.next ≡ q = cc in
     record { c = x; is = rw j; end_is = cc; last-is = cc; put_is = b.put }
 
 -- the two parts after those by number
-last-two : (g : Found Acts) (l : List ℕ) (k row place at n m : ℕ) (t t₁ u : List ℕ) {r : Out} → ActsRead g at n m r t₁ u → t₁ ≡ put_row row (numbers_row l k place) t
+last-two : (g : Found Acts) (l : List ℕ) (k row place at n m : ℕ) (t t₁ u : List ℕ) {r : Result Out Refusal} → ActsRead g at n m r t₁ u → t₁ ≡ put_row row (numbers_row l k place) t
     → NumberedRead (and_then g (λ x next. found (record { numbers = []; parts = x }) next)) l k row place at n m r t u
 unfolding NumberedIs NumberedPut out_all PutAll store
 last-two (refused x p) l k row place at n m t t₁ u a w = record { is = a.is; put = tt }
@@ -135,7 +106,7 @@ last-two (found x p) l k row place at n m t t₁ u a w =
     record { is = (first_starts x, (every_starts x, a.is)); put = a.put ∙ rw (w, add-zero k) }
 
 -- one more part by number
-one_more : (g : Found Numbered) (l l₁ : List ℕ) (k row place at n m : ℕ) (t t₁ u : List ℕ) (x next after n₁ m₁ : ℕ) (a : Act) {r : Out} → NumberedRead g l₁ (k + 1) row place after n₁ m₁ r t₁ u
+one_more : (g : Found Numbered) (l l₁ : List ℕ) (k row place at n m : ℕ) (t t₁ u : List ℕ) (x next after n₁ m₁ : ℕ) (a : Act) {r : Result Out Refusal} → NumberedRead g l₁ (k + 1) row place after n₁ m₁ r t₁ u
     → l₁ ≡ set l k x → next ≡ at + length (spell (x ∷ [])) → after ≡ next + length (spell (act_numbers a)) → n₁ ≡ n + size a → m₁ ≡ m + nodes a
     → t₁ ≡ put a next n m t → row < n → row < 256
     → NumberedRead (and_then g (λ c stop. found (also_numbered x a c) stop)) l k row place at n m r t u
@@ -144,8 +115,8 @@ one_more (refused y p) l l₁ k row place at n m t t₁ u x next after n₁ m₁
 one_more (found c p) l l₁ k row place at n m t t₁ u x next after n₁ m₁ a b e f h i j w s q =
     record { is = (b.is.0, (b.is.1.0, b.is.1.1 ∙ sized)); put = b.put ∙ written }
   where
-    sized : Out.Read p (n₁ + sizes c.parts) (m₁ + nodes_all c.parts) b.is.0 b.is.1.0
-        ≡ Out.Read p (n + sizes (more a c.parts)) (m + nodes_all (more a c.parts)) b.is.0 b.is.1.0
+    sized : out p (n₁ + sizes c.parts) (m₁ + nodes_all c.parts) b.is.0 b.is.1.0
+        ≡ out p (n + sizes (more a c.parts)) (m + nodes_all (more a c.parts)) b.is.0 b.is.1.0
     sized = rw (i, j, add_assoc n (size a) (sizes c.parts), add_assoc m (nodes a) (nodes_all c.parts))
 
     counted : k + 1 + length c.numbers ≡ k + suc (length c.numbers)
@@ -158,13 +129,13 @@ one_more (found c p) l l₁ k row place at n m t t₁ u x next after n₁ m₁ a
 
 -- `numbered_at`
 module _ (depth vars : ℕ) (cs s l : List ℕ) (k left row place n at m : ℕ) (t : List ℕ) where
-  pub numbers-none : left ≡ 0 → (t₁ u : List ℕ) {r : Out} → t₁ ≡ put_row row (numbers_row l k place) t
+  pub numbers-none : left ≡ 0 → (t₁ u : List ℕ) {r : Result Out Refusal} → t₁ ≡ put_row row (numbers_row l k place) t
       → ActsRead (many_in (node_in false depth vars cs s) true true 2 n at) at n m r t₁ u
       → NumberedRead (numbered_in (node_in false depth vars cs s) s left (backwards k l) n at) l k row place at n m r t u
   unfolding numbered_in
   numbers-none z t₁ u w a = rw z (last-two _ l k row place at n m t t₁ u a w)
 
-  module _ (z : left ≡ 0 → ⊥) {f : Field} (e : f ≡ field_of (fault_number_in s (backwards k l) at)) where
+  module _ (z : left ≡ 0 → ⊥) {f : Result Number Refusal} (e : f ≡ field_of (fault_number_in s (backwards k l) at)) where
     some : numbered_in (node_in false depth vars cs s) s left (backwards k l) n at
         ≡ and_then (fault_number_in s (backwards k l) at) (λ x p.
         and_then (node_in false depth vars cs s true n p) (λ a q.
@@ -179,32 +150,32 @@ module _ (depth vars : ℕ) (cs s l : List ℕ) (k left row place n at m : ℕ) 
         go zero z = absurd (z refl)
         go (suc j) z = rw (sub-one (suc j))
 
-    pub numbers-no-number : {number q : ℕ} → f ≡ Field.Refused number q
-        → NumberedRead (numbered_in (node_in false depth vars cs s) s left (backwards k l) n at) l k row place at n m (Out.Refused number q) t t
+    pub numbers-no-number : {y : Refusal} → f ≡ Err y
+        → NumberedRead (numbered_in (node_in false depth vars cs s) s left (backwards k l) n at) l k row place at n m (Err y) t t
     numbers-no-number o = numbers-refused l k row place at n m _ t t (some ∙ then-refused _ _ (field-no _ e o))
 
-    module _ {value next : ℕ} (o : f ≡ Got value next) (t₁ : List ℕ) {part : Out}
-        (a : ActRead (node_in false depth vars cs s true n next) next n m part t t₁) where
-      pub numbers-no-part : {number q : ℕ} → part ≡ Out.Refused number q
-          → NumberedRead (numbered_in (node_in false depth vars cs s) s left (backwards k l) n at) l k row place at n m part t t₁
+    module _ {read : Number} (o : f ≡ Ok read) (t₁ : List ℕ) {part : Result Out Refusal}
+        (a : ActRead (node_in false depth vars cs s true n read.next) read.next n m part t t₁) where
+      pub numbers-no-part : {y : Refusal} → part ≡ Err y
+          → NumberedRead (numbered_in (node_in false depth vars cs s) s left (backwards k l) n at) l k row place at n m (Err y) t t₁
       numbers-no-part r =
-          rw r (numbers-refused l k row place at n m _ t t₁ (some ∙ (then_found _ _ (field-got _ e o) ∙ then-refused _ _ (act-no next n m _ a r))))
+          (numbers-refused l k row place at n m _ t t₁ (some ∙ (then_found _ _ (field-got _ e o) ∙ then-refused _ _ (act-no read.next n m _ a r))))
 
-      module _ {after end nodes₁ : ℕ} {first every : Bool} (r : part ≡ Out.Read after end nodes₁ first every) where
-        pub numbers_more : (l₁ u : List ℕ) {rest : Out} → l₁ ≡ set l k value → backwards (k + 1) l₁ ≡ value ∷ backwards k l → NumbersRoom s vars n m row place at
-            → NumberedRead (numbered_in (node_in false depth vars cs s) s (left - 1) (backwards (k + 1) l₁) end after) l₁ (k + 1) row place after end nodes₁ rest t₁ u
+      module _ {one : Out} (r : part ≡ Ok one) where
+        pub numbers_more : (l₁ u : List ℕ) {rest : Result Out Refusal} → l₁ ≡ set l k read.value → backwards (k + 1) l₁ ≡ read.value ∷ backwards k l → NumbersRoom s vars n m row place at
+            → NumberedRead (numbered_in (node_in false depth vars cs s) s (left - 1) (backwards (k + 1) l₁) one.count one.next) l₁ (k + 1) row place one.next one.count one.nodes rest t₁ u
             → NumberedRead (numbered_in (node_in false depth vars cs s) s left (backwards k l) n at) l k row place at n m rest t u
         numbers_more l₁ u i j c b =
-            let x = act-got next n m _ a r in
+            let x = act-got read.next n m _ a r in
             let p = (fault-number-stands s (backwards k l) at).holds (field-got _ e o) in
-            let q = (node-reads false depth vars cs s true n next).holds x.is in
-            let w : numbered_in (node_in false depth vars cs s) s (left - 1) (backwards (k + 1) l₁) end after
-            ≡ numbered_in (node_in false depth vars cs s) s (left - 1) (value ∷ backwards k l) (n + size x.a) after =
-            ap (λ (y : List ℕ). numbered_in (node_in false depth vars cs s) s (left - 1) y end after) j
-            ∙ ap (λ (y : ℕ). numbered_in (node_in false depth vars cs s) s (left - 1) (value ∷ backwards k l) y after) x.end_is in
+            let q = (node-reads false depth vars cs s true n read.next).holds x.is in
+            let w : numbered_in (node_in false depth vars cs s) s (left - 1) (backwards (k + 1) l₁) one.count one.next
+            ≡ numbered_in (node_in false depth vars cs s) s (left - 1) (read.value ∷ backwards k l) (n + size x.a) one.next =
+            ap (λ (y : List ℕ). numbered_in (node_in false depth vars cs s) s (left - 1) y one.count one.next) j
+            ∙ ap (λ (y : ℕ). numbered_in (node_in false depth vars cs s) s (left - 1) (read.value ∷ backwards k l) y one.next) x.end_is in
             rw (some ∙ (then_found _ _ (field-got _ e o) ∙ then_found _ _ x.is))
-            (one_more (numbered_in (node_in false depth vars cs s) s (left - 1) (value ∷ backwards k l) (n + size x.a) after) l l₁ k row place at n m t t₁ u value next after end nodes₁ x.a
-            (numbers_as l₁ (k + 1) row place after end nodes₁ w b) i p.ends q.ends x.end_is x.last-is x.put_is c.before (omega (arith, c.before, c.numbered)))
+            (one_more (numbered_in (node_in false depth vars cs s) s (left - 1) (read.value ∷ backwards k l) (n + size x.a) one.next) l l₁ k row place at n m t t₁ u read.value read.next one.next one.count one.nodes x.a
+            (numbers_as l₁ (k + 1) row place one.next one.count one.nodes w b) i p.ends q.ends x.end_is x.last-is x.put_is c.before (omega (arith, c.before, c.numbered)))
 
 -- The scope.
 
@@ -301,74 +272,74 @@ put-scope numbers body parts place at n m t {next} {after} {end} {stop} {n₁} {
     go = rw (numbers-code numbers c.some, coded, add-zero m, ended, stopped, written)
 
 -- `numbered_scope_at`
-module _ (depth vars : ℕ) (cs s : List ℕ) (handler : Bool) (n at place m : ℕ) (t t₁ : List ℕ) {body : Out}
+module _ (depth vars : ℕ) (cs s : List ℕ) (handler : Bool) (n at place m : ℕ) (t t₁ : List ℕ) {body : Result Out Refusal}
     (a : ActRead (node_in false depth vars cs s handler (n + 1) at) at (n + 1) m body t t₁) where
-  pub scope-no-body : {number q : ℕ} → body ≡ Out.Refused number q
-      → ActRead (numbered_scope_in (node_in false depth vars cs s) s handler n at) place n m body t t₁
+  pub scope-no-body : {y : Refusal} → body ≡ Err y
+      → ActRead (numbered_scope_in (node_in false depth vars cs s) s handler n at) place n m (Err y) t t₁
   unfolding numbered_scope_in
-  scope-no-body o = rw o (act-refused place n m _ t t₁ (then-refused _ _ (act-no at (n + 1) m _ a o)))
+  scope-no-body o = act-refused place n m _ t t₁ (then-refused _ _ (act-no at (n + 1) m _ a o))
 
-  module _ {next end nodes₁ : ℕ} {first every : Bool} (o : body ≡ Out.Read next end nodes₁ first every) {f : Field} (e : f ≡ field_of (field_in s 1 9 next)) where
-    pub scope-no-count : {number q : ℕ} → f ≡ Field.Refused number q
-        → ActRead (numbered_scope_in (node_in false depth vars cs s) s handler n at) place n m (Out.Refused number q) t t₁
+  module _ {one : Out} (o : body ≡ Ok one) {f : Result Number Refusal} (e : f ≡ field_of (field_in s 1 9 one.next)) where
+    pub scope-no-count : {y : Refusal} → f ≡ Err y
+        → ActRead (numbered_scope_in (node_in false depth vars cs s) s handler n at) place n m (Err y) t t₁
     unfolding numbered_scope_in
     scope-no-count r =
         act-refused place n m _ t t₁ (then_found _ _ (act-got at (n + 1) m _ a o).is ∙ then-refused _ _ (field-no _ e r))
 
-    module _ {many parts : ℕ} (r : f ≡ Got many parts) (t₂ : List ℕ) {rest : Out}
-        (b : NumberedRead (numbered_in (node_in false depth vars cs s) s many (backwards 0 (replicate 8 0)) end parts) (replicate 8 0) 0 n place parts end nodes₁ rest t₁ t₂) where
+    module _ {many : Number} (r : f ≡ Ok many) (t₂ : List ℕ) {rest : Result Out Refusal}
+        (b : NumberedRead (numbered_in (node_in false depth vars cs s) s many.value (backwards 0 (replicate 8 0)) one.count many.next) (replicate 8 0) 0 n place many.next one.count one.nodes rest t₁ t₂) where
       -- what is read of the scope
       scope-is : numbered_scope_in (node_in false depth vars cs s) s handler n at
-          ≡ and_then (numbered_in (node_in false depth vars cs s) s many (backwards 0 (replicate 8 0)) end parts) (λ c stop.
+          ≡ and_then (numbered_in (node_in false depth vars cs s) s many.value (backwards 0 (replicate 8 0)) one.count many.next) (λ c stop.
           found (act (scope c.numbers true) (more (act-got at (n + 1) m _ a o).a c.parts)) stop)
       unfolding numbered_scope_in backwards
       scope-is =
           let x = act-got at (n + 1) m _ a o in
           then_found _ _ x.is ∙ (then_found _ _ (field-got _ e r)
-          ∙ sym (ap (λ (i : ℕ). and_then (numbered_in (node_in false depth vars cs s) s many [] i parts) (λ c stop. found (act (scope c.numbers true) (more x.a c.parts)) stop))
+          ∙ sym (ap (λ (i : ℕ). and_then (numbered_in (node_in false depth vars cs s) s many.value [] i many.next) (λ c stop. found (act (scope c.numbers true) (more x.a c.parts)) stop))
           x.end_is))
 
-      pub scope-no-parts : {number q : ℕ} → rest ≡ Out.Refused number q → ActRead (numbered_scope_in (node_in false depth vars cs s) s handler n at) place n m rest t t₂
-      scope-no-parts w = rw w (act-refused place n m _ t t₂ (scope-is ∙ then-refused _ _ (numbers-no (replicate 8 0) 0 n place parts end nodes₁ _ b w)))
+      pub scope-no-parts : {y : Refusal} → rest ≡ Err y → ActRead (numbered_scope_in (node_in false depth vars cs s) s handler n at) place n m (Err y) t t₂
+      scope-no-parts w = (act-refused place n m _ t t₂ (scope-is ∙ then-refused _ _ (numbers-no (replicate 8 0) 0 n place many.next one.count one.nodes _ b w)))
 
-      module _ (k : FieldFits s next 1 9 f) {stop last₁ last : ℕ} {g h : Bool} (w : rest ≡ Out.Read stop last₁ last g h) where
-        read-parts : PartsRead (numbered_in (node_in false depth vars cs s) s many (backwards 0 (replicate 8 0)) end parts) (replicate 8 0) 0 n place parts end nodes₁ stop last₁ last t₁ t₂
-        read-parts = numbers-got (replicate 8 0) 0 n place parts end nodes₁ _ b w
+      module _ (k : FieldFits s one.next 1 9 f) {all : Out} (w : rest ≡ Ok all) where
+        read-parts : PartsRead (numbered_in (node_in false depth vars cs s) s many.value (backwards 0 (replicate 8 0)) one.count many.next) (replicate 8 0) 0 n place many.next one.count one.nodes all.next all.count all.nodes t₁ t₂
+        read-parts = numbers-got (replicate 8 0) 0 n place many.next one.count one.nodes _ b w
 
-        stand-parts : NumberedStands s parts many read-parts.c stop
-        stand-parts = (numbered-stands s (node_in false depth vars cs s) (node-reads false depth vars cs s) many (backwards 0 (replicate 8 0)) end parts).holds read-parts.is
+        stand-parts : NumberedStands s many.next many.value read-parts.c all.next
+        stand-parts = (numbered-stands s (node_in false depth vars cs s) (node-reads false depth vars cs s) many.value (backwards 0 (replicate 8 0)) one.count many.next).holds read-parts.is
 
         count-parts : Counted read-parts.c.numbers read-parts.c.parts
         count-parts =
-            let v = (field_fits s next 1 9 k r).1 in
+            let v = (field_fits s one.next 1 9 k r).1 in
             record {
               some = omega (arith, stand-parts.many);
               most = omega (arith, stand-parts.many);
               both = omega (arith, stand-parts.many, stand-parts.parts);
             }
 
-        pub scope-whole : (u : List ℕ) → ScopeRoom s vars m place at → n < 256 → u ≡ put_close n last₁ stop t₂
-            → ActRead (numbered_scope_in (node_in false depth vars cs s) s handler n at) place n m (Out.Read stop last₁ last first first) t u
+        pub scope-whole : (u : List ℕ) → ScopeRoom s vars m place at → n < 256 → u ≡ put_close n all.count all.next t₂
+            → ActRead (numbered_scope_in (node_in false depth vars cs s) s handler n at) place n m (out all.next all.count all.nodes one.first one.first) t u
         unfolding sizes nodes_all first_starts own_nodes
         scope-whole u v l z =
             let x = act-got at (n + 1) m _ a o in
             let y = read-parts in
             let p = (node-reads false depth vars cs s handler (n + 1) at).holds x.is in
-            let q = (field-stands s 1 9 next).holds (field-got _ e r) in
+            let q = (field-stands s 1 9 one.next).holds (field-got _ e r) in
             whole-found _ place n m t u (scope y.c.numbers true) (more x.a y.c.parts) (scope-is ∙ then_found _ _ y.is)
             (omega (arith, y.end_is, x.end_is)) (omega (arith, y.last-is, x.last-is))
             (x.first-is ∙ sym (numbers-start y.c.numbers _ _ count-parts.some))
             (put-scope y.c.numbers x.a y.c.parts place at n m t count-parts v.coded p.ends
             (q.ends ∙ rw stand-parts.many) x.end_is x.last-is x.put_is l y.put_is y.end_is stand-parts.all.ends z)
 
-        pub scope-end : last₁ ≤ 256
+        pub scope-end : all.count ≤ 256
         scope-end =
             let l = one-numbered false depth vars cs s handler (n + 1) at m a o in
-            omega (arith, read-parts.end_is, (parts-numbered (node_in false depth vars cs s) (node-numbered false depth vars cs s) s many (backwards 0 (replicate 8 0)) end parts l).holds read-parts.is)
+            omega (arith, read-parts.end_is, (parts-numbered (node_in false depth vars cs s) (node-numbered false depth vars cs s) s many.value (backwards 0 (replicate 8 0)) one.count many.next l).holds read-parts.is)
 
-        pub scope-stop : ScopeRoom s vars m place at → stop ≤ 4096
+        pub scope-stop : ScopeRoom s vars m place at → all.next ≤ 4096
         scope-stop v =
-            let d = (field_fits s next 1 9 k r).0 in
+            let d = (field_fits s one.next 1 9 k r).0 in
             omega (arith, v.base.short, stands-inside stand-parts.all d.inside)
 
 -- What the calls of these functions may count on.
@@ -376,13 +347,13 @@ pub scope-next-fits : (n : ℕ) → n < 256 → Fits w64 (n + 1)
 scope-next-fits n l = omega arith
 
 module _ (s : List ℕ) (vars n m place at : ℕ) (v : ScopeRoom s vars m place at) where
-  module _ (depth : ℕ) (cs : List ℕ) (handler : Bool) {t t₁ : List ℕ} {body : Out} {next end nodes₁ : ℕ} {first every : Bool}
-      (a : ActRead (node_in false depth vars cs s handler (n + 1) at) at (n + 1) m body t t₁) (o : body ≡ Out.Read next end nodes₁ first every) where
-    pub scope-numbers-room : {f : Field} {many parts : ℕ} → FieldFits s next 1 9 f → f ≡ Got many parts → NumbersRoom s vars end nodes₁ n place parts
+  module _ (depth : ℕ) (cs : List ℕ) (handler : Bool) {t t₁ : List ℕ} {body : Result Out Refusal} {one : Out}
+      (a : ActRead (node_in false depth vars cs s handler (n + 1) at) at (n + 1) m body t t₁) (o : body ≡ Ok one) where
+    pub scope-numbers-room : {f : Result Number Refusal} {many : Number} → FieldFits s one.next 1 9 f → f ≡ Ok many → NumbersRoom s vars one.count one.nodes n place many.next
     scope-numbers-room k r =
         let x = act-got at (n + 1) m _ a o in
         let b = one-base false depth vars cs s handler (n + 1) at m a o v.base in
-        let d = (field_fits s next 1 9 k r).0 in
+        let d = (field_fits s one.next 1 9 k r).0 in
         record {
           base = record { short = b.short; few = b.few; behind = omega (arith, b.behind, d.forward); placed = omega (arith, b.short, d.inside) };
           numbered = one-numbered false depth vars cs s handler (n + 1) at m a o;
@@ -390,40 +361,40 @@ module _ (s : List ℕ) (vars n m place at : ℕ) (v : ScopeRoom s vars m place 
           placed = omega (arith, v.coded, v.base.placed);
         }
 
-pub scope-numbers-few : (s : List ℕ) (next : ℕ) {f : Field} {many parts : ℕ} → FieldFits s next 1 9 f → f ≡ Got many parts → 0 + many ≤ 8
+pub scope-numbers-few : (s : List ℕ) (next : ℕ) {f : Result Number Refusal} {many : Number} → FieldFits s next 1 9 f → f ≡ Ok many → 0 + many.value ≤ 8
 scope-numbers-few s next k r = omega (arith, (field_fits s next 1 9 k r).1.1)
 
-pub scope-numbers-fall : (s : List ℕ) (next depth t₀ : ℕ) {f : Field} {many parts : ℕ} → FieldFits s next 1 9 f → f ≡ Got many parts → weigh_scope depth ≡ t₀
-    → weigh_parts depth many < t₀
+pub scope-numbers-fall : (s : List ℕ) (next depth t₀ : ℕ) {f : Result Number Refusal} {many : Number} → FieldFits s next 1 9 f → f ≡ Ok many → weigh_scope depth ≡ t₀
+    → weigh_parts depth many.value < t₀
 scope-numbers-fall s next depth t₀ k r e = omega (arith, (field_fits s next 1 9 k r).1.1, e)
 
-module _ (s : List ℕ) (vars n m row place at : ℕ) (v : NumbersRoom s vars n m row place at) {f : Field} {value next : ℕ} (k : NumberFits s at f) (o : f ≡ Got value next) where
-  pub number-base : Base s vars m next
+module _ (s : List ℕ) (vars n m row place at : ℕ) (v : NumbersRoom s vars n m row place at) {f : Result Number Refusal} {read : Number} (k : NumberFits s at f) (o : f ≡ Ok read) where
+  pub number-base : Base s vars m read.next
   number-base =
       let d = number_fits s at k o in
       let b = v.base in
       record { short = b.short; few = b.few; behind = omega (arith, b.behind, d.forward); placed = omega (arith, b.short, d.inside) }
 
-  pub number-room : (depth : ℕ) (cs : List ℕ) {t t₁ : List ℕ} {part : Out} {after end nodes₁ : ℕ} {first every : Bool}
-      → ActRead (node_in false depth vars cs s true n next) next n m part t t₁ → part ≡ Out.Read after end nodes₁ first every → NumbersRoom s vars end nodes₁ row place after
+  pub number-room : (depth : ℕ) (cs : List ℕ) {t t₁ : List ℕ} {part : Result Out Refusal} {one : Out}
+      → ActRead (node_in false depth vars cs s true n read.next) read.next n m part t t₁ → part ≡ Ok one → NumbersRoom s vars one.count one.nodes row place one.next
   number-room depth cs a r =
-      let x = act-got next n m _ a r in
+      let x = act-got read.next n m _ a r in
       record {
-        base = one-base false depth vars cs s true n next m a r number-base;
-        numbered = one-numbered false depth vars cs s true n next m a r;
+        base = one-base false depth vars cs s true n read.next m a r number-base;
+        numbered = one-numbered false depth vars cs s true n read.next m a r;
         before = omega (arith, x.end_is, v.before);
         placed = v.placed;
       }
 
 -- `activity_at`, of such a scope
-module _ (arm : Bool) (depth vars : ℕ) (cs s : List ℕ) (handler : Bool) (n at m : ℕ) (t t₁ : List ℕ) {own : code.Own} {body : ℕ}
-    (a : OwnRead (node_head_in arm vars cs s handler depth n at) at n m own t t₁) (o : own ≡ code.Own.Numbered body) where
+module _ (arm : Bool) (depth vars : ℕ) (cs s : List ℕ) (handler : Bool) (n at m : ℕ) (t t₁ : List ℕ) {own : Result code.Own Refusal} {body : ℕ}
+    (a : OwnRead (node_head_in arm vars cs s handler depth n at) at n m own t t₁) (o : own ≡ Ok (code.Own.Numbered body)) where
   the-head : node_head_in arm vars cs s handler depth n at ≡ found numbered_head body
   the-head =
       let x = own-numbers _ at n m a o in
       x.is ∙ ap (λ (h : Head). found h body) (numbered-told ((node-noded arm vars cs s handler depth n at).holds x.is).is x.told)
 
-  pub act-scope : (u : List ℕ) {below : ℕ} {r : Out} → below ≡ levels_below arm depth
+  pub act-scope : (u : List ℕ) {below : ℕ} {r : Result Out Refusal} → below ≡ levels_below arm depth
       → ActRead (numbered_scope_in (node_in false below vars cs s) s handler n body) at n m r t₁ u → ActRead (node_in arm depth vars cs s handler n at) at n m r t u
   act-scope u j b =
       let x = own-numbers _ at n m a o in

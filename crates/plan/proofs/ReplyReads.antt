@@ -8,13 +8,14 @@ use borrow.Author.Tests.{eq-eqb, ne_eqb}
 use lib.Dec.{eqb}
 use lib.ListN.{length, get_or, set, length-append}
 use lib.Seq.{set-set}
-use Rattle.plan.specs.declared.Field.{Field}
-use Rattle.plan.specs.declared.Field.TheVariants.{Got}
 use Rattle.plan.specs.declared.Own as code
-use Rattle.plan.specs.Answers.{field_of, storing_in, message_own, OwnRead}
+use Rattle.std.specs.Prelude.{Result, Ok, Err}
+use Rattle.numbers.specs.declared.Number.{Number}
+use Rattle.plan.specs.declared.Refusal.{Refusal}
+use Rattle.plan.specs.Answers.{refusal, field_of, storing_in, message_own, OwnRead}
 use Rattle.plan.specs.Fits.{FieldFits}
 use Rattle.plan.specs.Found.{Found, refused, found, and_then, field_in, among}
-use Rattle.plan.specs.Nodes.{Room, IsMessage, sends, receives, holds, asks, is_arm}
+use Rattle.plan.specs.Nodes.{IsMessage, sends, receives, holds, asks, is_arm}
 use Rattle.plan.specs.Numbering.{backwards, named}
 use Rattle.plan.specs.Read.{Head, head, variables_in, tuple_in, exchange_in, held_send_in, asking_receive_in}
 use Rattle.plan.specs.Store.{store, padded, chosen}
@@ -74,9 +75,9 @@ record Written (vars : ℕ) (once : Bool) (s : List ℕ) (k p at place n m : ℕ
   many : within ≡ 0
   none : nodes ≡ m
 
-module _ (vars : ℕ) (once : Bool) (s : List ℕ) {k : ℕ} (p at place n m : ℕ) {x : code.Own} {t t₁ : List ℕ} (message : IsMessage k)
+module _ (vars : ℕ) (once : Bool) (s : List ℕ) {k : ℕ} (p at place n m : ℕ) {x : Result code.Own Refusal} {t t₁ : List ℕ} (message : IsMessage k)
     (a : OwnRead (exchange_in vars once s (message_own k p) 0 at) place n m x t t₁) where
-  written : {told within next nodes : ℕ} → x ≡ code.Own.Read told within next nodes → Written vars once s k p at place n m t t₁ told within next nodes
+  written : {told within next nodes : ℕ} → x ≡ Ok (code.Own.Read told within next nodes) → Written vars once s k p at place n m t t₁ told within next nodes
   written b =
       let c = own-got (exchange_in vars once s (message_own k p) 0 at) place n m a b in
       let d = (exchange-found vars once s (message_own k p) 0 at).holds c.is in
@@ -95,7 +96,7 @@ module _ (vars : ℕ) (once : Bool) (s : List ℕ) {k : ℕ} (p at place n m : �
       }
 
   -- it is no scope with fault parts by number
-  exchange-plain : {body : ℕ} → x ≡ code.Own.Numbered body → ⊥
+  exchange-plain : {body : ℕ} → x ≡ Ok (code.Own.Numbered body) → ⊥
   exchange-plain b =
       let c = own-numbers (exchange_in vars once s (message_own k p) 0 at) place n m a b in
       let d = (exchange-found vars once s (message_own k p) 0 at).holds c.is in
@@ -199,48 +200,48 @@ tuple-few vars once s at =
     finds-then (field-within s 1 5 at) (λ count q j. finds-so (variables-many vars once s count [] q) (λ l next k. omega (arith, j.1, k)))
 
 -- `held_send_own`
-module _ (vars : ℕ) (s : List ℕ) (at place n m : ℕ) (t : List ℕ) {f : Field} (e : f ≡ field_of (field_in s 0 vars at)) where
-  pub held-no-variable : (u : List ℕ) {number q : ℕ} → f ≡ Field.Refused number q → OwnRead (held_send_in vars s at) place n m (code.Own.Refused number q) t u
+module _ (vars : ℕ) (s : List ℕ) (at place n m : ℕ) (t : List ℕ) {f : Result Number Refusal} (e : f ≡ field_of (field_in s 0 vars at)) where
+  pub held-no-variable : (u : List ℕ) {y : Refusal} → f ≡ Err y → OwnRead (held_send_in vars s at) place n m (Err y) t u
   unfolding held_send_in
   held-no-variable u o = own-no-field (field_in s 0 vars at) _ place n m t u e o
 
-  module _ {v next : ℕ} (o : f ≡ Got v next) {x : code.Own} {t₁ : List ℕ} (a : OwnRead (exchange_in vars false s (message_own 17 0) 0 next) place n m x t t₁) where
-    pub held-no-exchange : (u : List ℕ) {number q : ℕ} → x ≡ code.Own.Refused number q → OwnRead (held_send_in vars s at) place n m (code.Own.Refused number q) t u
+  module _ {v : Number} (o : f ≡ Ok v) {x : Result code.Own Refusal} {t₁ : List ℕ} (a : OwnRead (exchange_in vars false s (message_own 17 0) 0 v.next) place n m x t t₁) where
+    pub held-no-exchange : (u : List ℕ) {y : Refusal} → x ≡ Err y → OwnRead (held_send_in vars s at) place n m (Err y) t u
     unfolding held_send_in exchange_in
     held-no-exchange u b =
         own-refused _ place n m t u
-        (then_found (field_in s 0 vars at) _ (field-got _ e o) ∙ exchange-refuses (field_in s 0 64 next) (tuple_in vars false s) (message_own 17 0) 0 _ (own-no _ place n m a b))
+        (then_found (field_in s 0 vars at) _ (field-got _ e o) ∙ exchange-refuses (field_in s 0 64 v.next) (tuple_in vars false s) (message_own 17 0) 0 _ (own-no _ place n m a b))
 
-    pub held_plain : (u : List ℕ) {body : ℕ} → x ≡ code.Own.Numbered body → OwnRead (held_send_in vars s at) place n m (code.Own.Numbered body) t u
-    held_plain u b = absurd (exchange-plain vars false s 0 next place n m holds a b)
+    pub held_plain : (u : List ℕ) {body : ℕ} → x ≡ Ok (code.Own.Numbered body) → OwnRead (held_send_in vars s at) place n m (Ok (code.Own.Numbered body)) t u
+    held_plain u b = absurd (exchange-plain vars false s 0 v.next place n m holds a b)
 
-    module _ {told within last nodes : ℕ} (b : x ≡ code.Own.Read told within last nodes) {g : Field} (i : g ≡ field_of (field_in s 0 64 last)) where
-      pub held-no-reply : (u : List ℕ) {number q : ℕ} → g ≡ Field.Refused number q → OwnRead (held_send_in vars s at) place n m (code.Own.Refused number q) t u
+    module _ {told within last nodes : ℕ} (b : x ≡ Ok (code.Own.Read told within last nodes)) {g : Result Number Refusal} (i : g ≡ field_of (field_in s 0 64 last)) where
+      pub held-no-reply : (u : List ℕ) {y : Refusal} → g ≡ Err y → OwnRead (held_send_in vars s at) place n m (Err y) t u
       unfolding held_send_in
       held-no-reply u z =
-          let c = written vars false s 0 next place n m holds a b in
+          let c = written vars false s 0 v.next place n m holds a b in
           own-refused _ place n m t u
           (then_found (field_in s 0 vars at) _ (field-got _ e o)
-          ∙ (then_found (field_in s 0 64 next) _ c.first
+          ∙ (then_found (field_in s 0 64 v.next) _ c.first
           ∙ (then_found (tuple_in vars false s c.middle) _ c.rest
           ∙ then-refused (field_in s 0 64 last) _ (field-no _ i z))))
 
-      pub held-read : {reply after : ℕ} {t₂ u : List ℕ} → g ≡ Got reply after → t₂ ≡ set t₁ (n * 13 + 1) reply → u ≡ set t₂ (n * 13 + 8) v
-          → OwnRead (held_send_in vars s at) place n m (code.Own.Read told within after nodes) t u
+      pub held-read : {reply : Number} {t₂ u : List ℕ} → g ≡ Ok reply → t₂ ≡ set t₁ (n * 13 + 1) reply.value → u ≡ set t₂ (n * 13 + 8) v.value
+          → OwnRead (held_send_in vars s at) place n m (Ok (code.Own.Read told within reply.next nodes)) t u
       unfolding held_send_in kind own_nodes put_own_nodes row_of
       held-read {reply} {u = u} z w y =
-          let c = written vars false s 0 next place n m holds a b in
+          let c = written vars false s 0 v.next place n m holds a b in
           rw (c.same, c.many, c.none)
-          (own_row _ place n m t u (send (to_held v reply) c.operation c.l)
+          (own_row _ place n m t u (send (to_held v.value reply.value) c.operation c.l)
           (then_found (field_in s 0 vars at) _ (field-got _ e o)
-          ∙ (then_found (field_in s 0 64 next) _ c.first
+          ∙ (then_found (field_in s 0 64 v.next) _ c.first
           ∙ (then_found (tuple_in vars false s c.middle) _ c.rest
           ∙ then_found (field_in s 0 64 last) _ (field-got _ i z))))
           refl refl refl
           (y
-          ∙ (ap (λ (q : List ℕ). set q (n * 13 + 8) v) w
-          ∙ (ap (λ (q : List ℕ). set (set q (n * 13 + 1) reply) (n * 13 + 8) v) c.put
-          ∙ held-row n 0 reply _ _ _ _ _ _ 0 v 0 place t))))
+          ∙ (ap (λ (q : List ℕ). set q (n * 13 + 8) v.value) w
+          ∙ (ap (λ (q : List ℕ). set (set q (n * 13 + 1) reply.value) (n * 13 + 8) v.value) c.put
+          ∙ held-row n 0 reply.value _ _ _ _ _ _ 0 v.value 0 place t))))
 
 -- `spoken_for`
 module _ (v : ℕ) (flags others : List ℕ) where
@@ -251,20 +252,20 @@ module _ (v : ℕ) (flags others : List ℕ) where
   for-no-correlation h e = rw (chosen_at flags 0 v v (omega arith) ∙ ne_eqb _ _ h) e
 
 -- `storing_at`
-pub storing-below : (s : List ℕ) (at vars : ℕ) {r : Field} {value next : ℕ} → vars ≤ 16 → FieldFits s at 0 vars r → r ≡ Got value next → value < 16
+pub storing-below : (s : List ℕ) (at vars : ℕ) {r : Result Number Refusal} {read : Number} → vars ≤ 16 → FieldFits s at 0 vars r → r ≡ Ok read → read.value < 16
 storing-below s at vars l f o = omega (arith, (field_fits s at 0 vars f o).1.1)
 
-module _ (vars : ℕ) (cs others s : List ℕ) (at : ℕ) {r : Field} (e : r ≡ field_of (field_in s 0 vars at)) where
-  pub storing-handed : {number place : ℕ} → r ≡ Field.Refused number place → r ≡ field_of (storing_in vars cs others s at)
+module _ (vars : ℕ) (cs others s : List ℕ) (at : ℕ) {r : Result Number Refusal} (e : r ≡ field_of (field_in s 0 vars at)) where
+  pub storing-handed : {y : Refusal} → r ≡ Err y → Err y ≡ field_of (storing_in vars cs others s at)
   unfolding storing_in
   storing-handed o = handed (field_in s 0 vars at) _ e o
 
-  module _ {value next : ℕ} (o : r ≡ Got value next) {b : Bool} (i : b ≡ (among value cs || among value others)) where
-    pub storing-spoken-for : b ≡ true → Field.Refused 5 at ≡ field_of (storing_in vars cs others s at)
+  module _ {read : Number} (o : r ≡ Ok read) {b : Bool} (i : b ≡ (among read.value cs || among read.value others)) where
+    pub storing-spoken-for : b ≡ true → Err (refusal 5 at) ≡ field_of (storing_in vars cs others s at)
     unfolding storing_in field_of
     storing-spoken-for h = rw (field-got (field_in s 0 vars at) e o, sym i ∙ h)
 
-    pub storing-good : b ≡ false → Got value next ≡ field_of (storing_in vars cs others s at)
+    pub storing-good : b ≡ false → Ok read ≡ field_of (storing_in vars cs others s at)
     unfolding storing_in field_of
     storing-good h = rw (field-got (field_in s 0 vars at) e o, sym i ∙ h)
 
@@ -294,35 +295,35 @@ storing-then vars cs others s at k =
     sym (then-in (field_in s 0 vars at) _ k ∙ then_same (field_in s 0 vars at) _ _ (λ v next. cond-then (among v cs || among v others) 5 at v next k))
 
 -- `asking_receive_own`
-module _ (vars : ℕ) (cs s : List ℕ) (at place n m : ℕ) (t : List ℕ) {f : Field} (e : f ≡ field_of (field_in s 0 64 at)) where
-  pub asking-no-partner : (u : List ℕ) {number q : ℕ} → f ≡ Field.Refused number q → OwnRead (asking_receive_in vars cs s at) place n m (code.Own.Refused number q) t u
+module _ (vars : ℕ) (cs s : List ℕ) (at place n m : ℕ) (t : List ℕ) {f : Result Number Refusal} (e : f ≡ field_of (field_in s 0 64 at)) where
+  pub asking-no-partner : (u : List ℕ) {y : Refusal} → f ≡ Err y → OwnRead (asking_receive_in vars cs s at) place n m (Err y) t u
   unfolding asking_receive_in
   asking-no-partner u o = own-no-field (field_in s 0 64 at) _ place n m t u e o
 
-  module _ {partner next : ℕ} (o : f ≡ Got partner next) {x : code.Own} {t₁ : List ℕ}
-      (a : OwnRead (exchange_in vars true s (message_own 18 partner) 0 next) place n m x t t₁) where
-    pub asking-no-exchange : (u : List ℕ) {number q : ℕ} → x ≡ code.Own.Refused number q → OwnRead (asking_receive_in vars cs s at) place n m (code.Own.Refused number q) t u
+  module _ {partner : Number} (o : f ≡ Ok partner) {x : Result code.Own Refusal} {t₁ : List ℕ}
+      (a : OwnRead (exchange_in vars true s (message_own 18 partner.value) 0 partner.next) place n m x t t₁) where
+    pub asking-no-exchange : (u : List ℕ) {y : Refusal} → x ≡ Err y → OwnRead (asking_receive_in vars cs s at) place n m (Err y) t u
     unfolding asking_receive_in exchange_in
     asking-no-exchange u b =
         own-refused _ place n m t u
         (then_found (field_in s 0 64 at) _ (field-got _ e o)
-        ∙ exchange-refuses (field_in s 0 64 next) (tuple_in vars true s) (message_own 18 partner) 0 _ (own-no _ place n m a b))
+        ∙ exchange-refuses (field_in s 0 64 partner.next) (tuple_in vars true s) (message_own 18 partner.value) 0 _ (own-no _ place n m a b))
 
-    pub asking-plain : (u : List ℕ) {body : ℕ} → x ≡ code.Own.Numbered body → OwnRead (asking_receive_in vars cs s at) place n m (code.Own.Numbered body) t u
-    asking-plain u b = absurd (exchange-plain vars true s partner next place n m asks a b)
+    pub asking-plain : (u : List ℕ) {body : ℕ} → x ≡ Ok (code.Own.Numbered body) → OwnRead (asking_receive_in vars cs s at) place n m (Ok (code.Own.Numbered body)) t u
+    asking-plain u b = absurd (exchange-plain vars true s partner.value partner.next place n m asks a b)
 
-    module _ {told within last nodes : ℕ} (b : x ≡ code.Own.Read told within last nodes) (h : n < 256) (long : length t₁ ≡ 11584) (low : partner < 64) where
-      exchange : Written vars true s 18 partner next place n m t t₁ told within last nodes
-      exchange = written vars true s partner next place n m asks a b
+    module _ {told within last nodes : ℕ} (b : x ≡ Ok (code.Own.Read told within last nodes)) (h : n < 256) (long : length t₁ ≡ 11584) (low : partner.value < 64) where
+      exchange : Written vars true s 18 partner.value partner.next place n m t t₁ told within last nodes
+      exchange = written vars true s partner.value partner.next place n m asks a b
 
       few : length exchange.l ≤ 4
       few = (tuple-few vars true s exchange.middle).holds exchange.rest
 
       -- what stands in the row
-      in_row : (j : ℕ) → j < 11 → get_or t₁ (n * 13 + j) 0 ≡ get_or (row 18 partner exchange.operation exchange.l 0 0 place) j 0
+      in_row : (j : ℕ) → j < 11 → get_or t₁ (n * 13 + j) 0 ≡ get_or (row 18 partner.value exchange.operation exchange.l 0 0 place) j 0
       in_row j l =
-          let was : length t ≡ 11584 = sym (ap length exchange.put ∙ length-row n (row 18 partner exchange.operation exchange.l 0 0 place) t) ∙ long in
-          ap (λ (u : List ℕ). get_or u (n * 13 + j) 0) exchange.put ∙ row_at n (row 18 partner exchange.operation exchange.l 0 0 place) t refl h was low j l
+          let was : length t ≡ 11584 = sym (ap length exchange.put ∙ length-row n (row 18 partner.value exchange.operation exchange.l 0 0 place) t) ∙ long in
+          ap (λ (u : List ℕ). get_or u (n * 13 + j) 0) exchange.put ∙ row_at n (row 18 partner.value exchange.operation exchange.l 0 0 place) t refl h was low j l
 
       pub asking-few : get_or t₁ (n * 13 + 3) 0 ≤ 4
       asking-few = omega (arith, in_row 3 (omega arith), few)
@@ -333,25 +334,25 @@ module _ (vars : ℕ) (cs s : List ℕ) (at place n m : ℕ) (t : List ℕ) {f :
 
       -- reading goes on behind the exchange
       asking-on : asking_receive_in vars cs s at
-          ≡ and_then (storing_in vars cs (named t₁ n) s last) (λ v after. found (head (receive (from_asking partner v) exchange.operation exchange.l) 0) after)
+          ≡ and_then (storing_in vars cs (named t₁ n) s last) (λ v after. found (head (receive (from_asking partner.value v) exchange.operation exchange.l) 0) after)
       unfolding asking_receive_in
       asking-on =
           then_found (field_in s 0 64 at) _ (field-got _ e o)
-          ∙ (then_found (field_in s 0 64 next) _ exchange.first
+          ∙ (then_found (field_in s 0 64 partner.next) _ exchange.first
           ∙ (then_found (tuple_in vars true s exchange.middle) _ exchange.rest
           ∙ (storing-then vars cs exchange.l s last _
-          ∙ ap (λ (g : Found ℕ). and_then g (λ v after. found (head (receive (from_asking partner v) exchange.operation exchange.l) 0) after))
+          ∙ ap (λ (g : Found ℕ). and_then g (λ v after. found (head (receive (from_asking partner.value v) exchange.operation exchange.l) 0) after))
           (sym (storing-same vars cs (named t₁ n) exchange.l s last named-same)))))
 
-      module _ {g : Field} (i : g ≡ field_of (storing_in vars cs (named t₁ n) s last)) where
-        pub asking-no-variable : (u : List ℕ) {number q : ℕ} → g ≡ Field.Refused number q → OwnRead (asking_receive_in vars cs s at) place n m (code.Own.Refused number q) t u
+      module _ {g : Result Number Refusal} (i : g ≡ field_of (storing_in vars cs (named t₁ n) s last)) where
+        pub asking-no-variable : (u : List ℕ) {y : Refusal} → g ≡ Err y → OwnRead (asking_receive_in vars cs s at) place n m (Err y) t u
         asking-no-variable u z = own-refused _ place n m t u (asking-on ∙ then-refused (storing_in vars cs (named t₁ n) s last) _ (field-no _ i z))
 
-        pub asking-read : {v after : ℕ} {u : List ℕ} → g ≡ Got v after → u ≡ set t₁ (n * 13 + 8) v
-            → OwnRead (asking_receive_in vars cs s at) place n m (code.Own.Read told within after nodes) t u
+        pub asking-read : {v : Number} {u : List ℕ} → g ≡ Ok v → u ≡ set t₁ (n * 13 + 8) v.value
+            → OwnRead (asking_receive_in vars cs s at) place n m (Ok (code.Own.Read told within v.next nodes)) t u
         unfolding kind own_nodes put_own_nodes row_of
         asking-read {v} {u = u} z y =
             rw (exchange.same, exchange.many, exchange.none)
-            (own_row _ place n m t u (receive (from_asking partner v) exchange.operation exchange.l)
+            (own_row _ place n m t u (receive (from_asking partner.value v.value) exchange.operation exchange.l)
             (asking-on ∙ then_found (storing_in vars cs (named t₁ n) s last) _ (field-got _ i z))
-            refl refl refl (y ∙ (ap (λ (q : List ℕ). set q (n * 13 + 8) v) exchange.put ∙ asking-row n partner _ _ _ _ _ _ 0 v 0 place t h)))
+            refl refl refl (y ∙ (ap (λ (q : List ℕ). set q (n * 13 + 8) v.value) exchange.put ∙ asking-row n partner.value _ _ _ _ _ _ 0 v.value 0 place t h)))

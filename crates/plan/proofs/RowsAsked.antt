@@ -1,22 +1,20 @@
 -- What the rows of a plan's table ask for is what its receives and arms ask for. Assumes nothing.
 use borrow.Author.Tests.{ltb-true, leb-true, ne_eqb}
 use native.Mathlib.Omega.{arith}
-use native.Mathlib.Nat.{add-zero, add_assoc}
-use native.Mathlib.Numerals.{add-one, one-add}
+use native.Mathlib.Nat.{add-zero}
 use mathlib.Core.Path.{◌≡◌, refl, sym, ap, ◌∙◌}
-use mathlib.Core.Bool.{Bool, true, false, cond, not, ◌&&◌, ◌||◌}
-use mathlib.Core.List.{List, [], ◌∷◌, ◌++◌, append_assoc, append-nil}
+use mathlib.Core.Bool.{Bool, true, false, not, ◌||◌}
+use mathlib.Core.List.{List, [], ◌∷◌, ◌++◌, append_assoc}
 use Prim.Native.Nat.{ℕ, zero, suc, ◌+◌, ◌*◌, ◌≤◌, ◌<◌}
 use lib.Dec.{eqb, ltb, leb}
 use lib.ListN.{length, get_or, length-append}
-use Rattle.numbers.specs.Shortest.{shortest, spelled}
+use Rattle.numbers.specs.Shortest.{shortest}
 use Rattle.numbers.proofs.Laws.{spelled-last}
-use Rattle.plan.specs.Agree.{Asked, asking, Places, in_bytes, asked_own, beyond, span_of, span_all, asked_in, asked_all, asked}
+use Rattle.plan.specs.Agree.{asking, Places, in_bytes, asked_own, beyond, span_of, span_all, asked_in, asked_all, asked}
 use Rattle.plan.specs.Heard.{ahead_of, row_asked, rows_asked}
-use Rattle.plan.specs.Spell.{spell, own_numbers, gaps_of, gap, later, passing, act_numbers, acts_numbers}
+use Rattle.plan.specs.Spell.{spell, own_numbers, gaps_of, later, passing, act_numbers, acts_numbers}
 use Rattle.plan.specs.Spells.{Row, Spells, SpellsAll, variables_of}
-use Rattle.plan.specs.Table.{row_of, nodes, own_nodes, body_place, table_over}
-use Rattle.plan.specs.Tree as tree
+use Rattle.plan.specs.Table.{row_of, body_place, table_over}
 use Rattle.plan.specs.Tree.{Own, empty, to_partner, to_held, from_partner, from_asking, send, receive, set, raise, leave, choose, repeat, sequence, flow, pick, scope, arm, kind, partner_from, numbers_of, Act, act, Acts, none, more, Plan, size, sizes, count}
 use Rattle.plan.specs.Within.{exchange_within, own_within, act_within, acts_within, plan_within}
 use Rattle.plan.proofs.Accepts.{both}

@@ -17,7 +17,7 @@ use Rattle.numbers.specs.declared.Trouble.{Trouble}
 use Rattle.numbers.specs.declared.Trouble.TheVariants.{Short, Bad}
 use Rattle.numbers.proofs.Laws.{read-ends, read-is-shortest, value-bounds, shortest-long}
 use Rattle.plan.specs.Found.{Found, found_number, number_in, field_in, among}
-use Rattle.plan.specs.Tree.{Exp, constant, variable, binary, Own, empty, to_partner, to_held, from_partner, from_asking, send, receive, set, raise, leave, choose, repeat, sequence, flow, pick, scope, arm, kind, numbers_of, Act, act, Acts, none, more, Plan, size, count, is_pick}
+use Rattle.plan.specs.Tree.{Exp, constant, variable, binary, Own, empty, to_partner, to_held, from_partner, from_asking, send, receive, set, raise, leave, choose, repeat, sequence, flow, pick, scope, arm, numbers_of, Act, act, Acts, none, more, Plan, size, count, is_pick}
 use Rattle.plan.specs.Spell.{spell, operation_code, expression_numbers, exchange_numbers, own_numbers, gaps_of, act_numbers, acts_numbers, plan_numbers}
 use Rattle.plan.specs.Read.{expression_code_in, operation_of, leaf_in, expression_in, variables_in, tuple_in, Head, head, numbered_head, exchange_in, arm_in, partner_in, held_send_in, asking_receive_in, with_expression_in, set_in, list_in, raise_in, namable, fault_number_in, is_code, is_scope_code, code_in, parts_in, head_in, many_in, Numbered, numbered_in, numbered_scope_in, whole_in, read_arm, reads_in, later_of, read_act, start_form, correlation_in, version_in, root_in, read_any}
 use Rattle.plan.proofs.Finds.{Finds, finds-refused, finds-itself, finds-found, finds-cond, finds-code, finds-then, finds-both, finds-so, cond-case, code-case}

@@ -8,7 +8,7 @@ use lib.ListN.{length}
 use Rattle.plan.specs.Spell.{gaps_of, later, passing}
 use Rattle.plan.specs.Store.{store}
 use Rattle.plan.specs.Table.{row_of, noted, put_row, put_node, put_nodes, put_own_nodes, put_own, put_close, put, put_all}
-use Rattle.plan.specs.Tree.{Exp, constant, variable, binary, Own, empty, send, receive, set, raise, leave, choose, repeat, sequence, flow, pick, scope, arm, numbers_of, Act, act, Acts, none, more, size}
+use Rattle.plan.specs.Tree.{Exp, constant, variable, binary, Own, empty, send, receive, set, raise, leave, choose, repeat, sequence, flow, pick, scope, arm, numbers_of, Act, act, Acts, none, more}
 use Rattle.plan.proofs.Stores.{length-store}
 
 pub length-noted : (k p : ℕ) (t : List ℕ) → length (noted k p t) ≡ length t

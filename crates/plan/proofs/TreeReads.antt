@@ -12,14 +12,16 @@ use mir.Syntax.{w64}
 use mir.Val.{Fits}
 use Rattle.plan.specs.declared.Out.{Out}
 use Rattle.plan.specs.declared.Own as code
-use Rattle.plan.specs.Answers.{OwnRead, out_of, Put, ActRead, out_all, PutAll, ActsRead}
+use Rattle.std.specs.Prelude.{Result, Ok, Err}
+use Rattle.plan.specs.declared.Refusal.{Refusal}
+use Rattle.plan.specs.Answers.{out, refusal, OwnRead, out_of, Put, ActRead, out_all, PutAll, ActsRead}
 use Rattle.plan.specs.Fits.{weigh, weigh_scope}
 use Rattle.plan.specs.Found.{Found, refused, found, and_then, field_in, among}
 use Rattle.plan.specs.Nodes.{Base, node_head_in, node_in}
 use Rattle.plan.specs.Read.{expression_in, tuple_in, Head, numbered_head, exchange_in, arm_in, partner_in, held_send_in, asking_receive_in, with_expression_in, set_in, list_in, raise_in, is_scope_code, parts_in, head_in, many_in, whole_in, read_arm, read_act, later_of, starts, start_form, first_starts, every_starts}
 use Rattle.plan.specs.Spell.{spell, own_numbers, gaps_of, act_numbers, acts_numbers}
 use Rattle.plan.specs.Table.{put_own, put_close, put, put_all, own_nodes, nodes, nodes_all}
-use Rattle.plan.specs.Tree.{Exp, Own, to_partner, from_partner, send, receive, set, choose, repeat, sequence, flow, pick, kind, is_scope, is_pick, numbers_of, Act, act, Acts, none, more, size, sizes, count}
+use Rattle.plan.specs.Tree.{Exp, Own, to_partner, from_partner, send, receive, set, choose, repeat, sequence, flow, pick, kind, is_scope, is_pick, numbers_of, Act, act, Acts, more, size, sizes, count}
 use Rattle.plan.specs.Within.{levels_below}
 use Rattle.plan.proofs.Bounds.{arm-numbered, own-nodes-spelled, act-nodes-spelled, many-numbered, reads-numbered, act-numbered, Numbered}
 use Rattle.plan.proofs.Finds.{Finds, finds-refused, finds-itself, finds-found, finds-cond, finds-then, finds-so, finds-both}
@@ -196,20 +198,20 @@ module _ (vars : ℕ) (cs s : List ℕ) (handler : Bool) (n at : ℕ) where
 
 -- What reading comes to, where what is found is known, and the other way round.
 module _ (at n m : ℕ) where
-  pub act-refused : (g : Found Act) (t u : List ℕ) {number place : ℕ} → g ≡ refused number place → ActRead g at n m (Out.Refused number place) t u
+  pub act-refused : (g : Found Act) (t u : List ℕ) {number place : ℕ} → g ≡ refused number place → ActRead g at n m (Err (refusal number place)) t u
   unfolding out_of Put
   act-refused g t u e = rw e (record { is = refl; put = tt })
 
-  pub act-no : (g : Found Act) {r : Out} {t u : List ℕ} {number place : ℕ} → ActRead g at n m r t u → r ≡ Out.Refused number place → g ≡ refused number place
+  pub act-no : (g : Found Act) {r : Result Out Refusal} {t u : List ℕ} {y : Refusal} → ActRead g at n m r t u → r ≡ Err y → g ≡ refused y.number y.place
   unfolding out_of
   act-no (refused x p) a o = let i = a.is in cc
   act-no (found x q) a o = let i = a.is in let z : ◌≡◌ {A = ℕ} 0 1 = cc in absurd (omega arith)
 
-  acts-refused : (g : Found Acts) (t u : List ℕ) {number place : ℕ} → g ≡ refused number place → ActsRead g at n m (Out.Refused number place) t u
+  acts-refused : (g : Found Acts) (t u : List ℕ) {number place : ℕ} → g ≡ refused number place → ActsRead g at n m (Err (refusal number place)) t u
   unfolding out_all PutAll
   acts-refused g t u e = rw e (record { is = refl; put = tt })
 
-  pub acts-no : (g : Found Acts) {r : Out} {t u : List ℕ} {number place : ℕ} → ActsRead g at n m r t u → r ≡ Out.Refused number place → g ≡ refused number place
+  pub acts-no : (g : Found Acts) {r : Result Out Refusal} {t u : List ℕ} {y : Refusal} → ActsRead g at n m r t u → r ≡ Err y → g ≡ refused y.number y.place
   unfolding out_all
   acts-no (refused x p) a o = let i = a.is in cc
   acts-no (found x q) a o = let i = a.is in let z : ◌≡◌ {A = ℕ} 0 1 = cc in absurd (omega arith)
@@ -223,13 +225,13 @@ pub record OneRead (g : Found Act) (at n m next end last : ℕ) (first every : B
   pub first-is : first ≡ start_form a
   pub put_is : u ≡ put a at n m t
 
-pub act-got : (at n m : ℕ) (g : Found Act) {r : Out} {t u : List ℕ} {next end last : ℕ} {first every : Bool} → ActRead g at n m r t u
-    → r ≡ Out.Read next end last first every → OneRead g at n m next end last first every t u
+pub act-got : (at n m : ℕ) (g : Found Act) {r : Result Out Refusal} {t u : List ℕ} {y : Out} → ActRead g at n m r t u
+    → r ≡ Ok y → OneRead g at n m y.next y.count y.nodes y.first y.every t u
 unfolding out_of Put
 act-got at n m (refused x p) b o = let i = b.is in let z : ◌≡◌ {A = ℕ} 0 1 = cc in absurd (omega arith)
-act-got at n m (found x q) {next = next} b o =
+act-got at n m (found x q) {y = y} b o =
     let i = b.is in
-    let j : next ≡ q = cc in
+    let j : y.next ≡ q = cc in
     record { a = x; is = rw j; end_is = cc; last-is = cc; first-is = cc; put_is = b.put }
 
 pub record AllRead (g : Found Acts) (at n m next end last : ℕ) (first every : Bool) (t u : List ℕ) : Type 0 where
@@ -241,13 +243,13 @@ pub record AllRead (g : Found Acts) (at n m next end last : ℕ) (first every : 
   pub every-is : every ≡ every_starts l
   pub put_is : u ≡ put_all [] l at n m t
 
-pub acts-got : (at n m : ℕ) (g : Found Acts) {r : Out} {t u : List ℕ} {next end last : ℕ} {first every : Bool} → ActsRead g at n m r t u
-    → r ≡ Out.Read next end last first every → AllRead g at n m next end last first every t u
+pub acts-got : (at n m : ℕ) (g : Found Acts) {r : Result Out Refusal} {t u : List ℕ} {y : Out} → ActsRead g at n m r t u
+    → r ≡ Ok y → AllRead g at n m y.next y.count y.nodes y.first y.every t u
 unfolding out_all PutAll
 acts-got at n m (refused x p) b o = let i = b.is in let z : ◌≡◌ {A = ℕ} 0 1 = cc in absurd (omega arith)
-acts-got at n m (found x q) {next = next} b o =
+acts-got at n m (found x q) {y = y} b o =
     let i = b.is in
-    let j : next ≡ q = cc in
+    let j : y.next ≡ q = cc in
     record { l = x; is = rw j; end_is = cc; last-is = cc; first-is = cc; every-is = cc; put_is = b.put }
 
 -- whatever an activity or arm is read as stands where it was read, and keeps to 256 numbers
@@ -267,7 +269,7 @@ many-some read handler later (suc k) n at z = rw (sub-one (suc k))
 -- a list whose first and whose rest are read
 more-found : (g : Found Acts) (at n m : ℕ) (t u : List ℕ) (a : Act) (l : Acts) {stop end last : ℕ} {first both : Bool} → g ≡ found (more a l) stop
     → end ≡ n + (size a + sizes l) → last ≡ m + (nodes a + nodes_all l) → first ≡ start_form a → both ≡ (start_form a && every_starts l)
-    → u ≡ put_all [] l (at + length (spell (act_numbers a))) (n + size a) (m + nodes a) (put a at n m t) → ActsRead g at n m (Out.Read stop end last first both) t u
+    → u ≡ put_all [] l (at + length (spell (act_numbers a))) (n + size a) (m + nodes a) (put a at n m t) → ActsRead g at n m (out stop end last first both) t u
 unfolding out_all PutAll put_all nodes_all sizes first_starts
 more-found g at n m t u a l e i j f v p = rw (e, i, j, f, v) (record { is = refl; put = p })
 
@@ -279,7 +281,7 @@ put_on l e f g h = rw (e, f, g, h)
 
 -- `activities_at`
 module _ (arms : Bool) (depth vars : ℕ) (cs s : List ℕ) (handler later : Bool) (left n at m : ℕ) (t : List ℕ) where
-  pub acts-none : left ≡ 0 → ActsRead (many_in (node_in arms depth vars cs s) handler later left n at) at n m (Out.Read at n m false true) t t
+  pub acts-none : left ≡ 0 → ActsRead (many_in (node_in arms depth vars cs s) handler later left n at) at n m (out at n m false true) t t
   unfolding many_in out_all PutAll put_all nodes_all sizes first_starts every_starts
   acts-none z = rw z (record { is = rw (add-zero n, add-zero m); put = refl })
 
@@ -288,35 +290,35 @@ module _ (arms : Bool) (depth vars : ℕ) (cs s : List ℕ) (handler later : Boo
         ≡ and_then (node_in arms depth vars cs s handler n at) (λ a p. and_then (many_in (node_in arms depth vars cs s) later later (left - 1) (n + size a) p) (λ l q. found (more a l) q))
     some = many-some (node_in arms depth vars cs s) handler later left n at z
 
-    pub acts-no-first : (u : List ℕ) {one : Out} {number place : ℕ} → ActRead (node_in arms depth vars cs s handler n at) at n m one t u
-        → one ≡ Out.Refused number place → ActsRead (many_in (node_in arms depth vars cs s) handler later left n at) at n m one t u
-    acts-no-first u a o = rw o (acts-refused at n m _ t u (some ∙ then-refused _ _ (act-no at n m _ a o)))
+    pub acts-no-first : (u : List ℕ) {r : Result Out Refusal} {y : Refusal} → ActRead (node_in arms depth vars cs s handler n at) at n m r t u
+        → r ≡ Err y → ActsRead (many_in (node_in arms depth vars cs s) handler later left n at) at n m (Err y) t u
+    acts-no-first u a o = acts-refused at n m _ t u (some ∙ then-refused _ _ (act-no at n m _ a o))
 
-    module _ (t₁ u : List ℕ) {one rest : Out} {next end nodes₁ : ℕ} {first every₁ : Bool}
-        (a : ActRead (node_in arms depth vars cs s handler n at) at n m one t t₁) (o : one ≡ Out.Read next end nodes₁ first every₁)
-        (b : ActsRead (many_in (node_in arms depth vars cs s) later later (left - 1) end next) next end nodes₁ rest t₁ u) where
-      pub acts-no-rest : {number place : ℕ} → rest ≡ Out.Refused number place
-          → ActsRead (many_in (node_in arms depth vars cs s) handler later left n at) at n m rest t u
-      acts-no-rest r =
+    module _ (t₁ u : List ℕ) {r rest : Result Out Refusal} {one : Out}
+        (a : ActRead (node_in arms depth vars cs s handler n at) at n m r t t₁) (o : r ≡ Ok one)
+        (b : ActsRead (many_in (node_in arms depth vars cs s) later later (left - 1) one.count one.next) one.next one.count one.nodes rest t₁ u) where
+      pub acts-no-rest : {y : Refusal} → rest ≡ Err y
+          → ActsRead (many_in (node_in arms depth vars cs s) handler later left n at) at n m (Err y) t u
+      acts-no-rest w =
           let x = act-got at n m _ a o in
-          let e = acts-no next end nodes₁ _ b r in
-          rw r (acts-refused at n m _ t u (some ∙ (then_found _ _ x.is ∙ then-refused _ _ (rw x.end_is at e))))
+          let e = acts-no one.next one.count one.nodes _ b w in
+          acts-refused at n m _ t u (some ∙ (then_found _ _ x.is ∙ then-refused _ _ (rw x.end_is at e)))
 
-      pub acts-more : {stop end₂ last : ℕ} {f every both : Bool} → rest ≡ Out.Read stop end₂ last f every → both ≡ (first && every)
-          → ActsRead (many_in (node_in arms depth vars cs s) handler later left n at) at n m (Out.Read stop end₂ last first both) t u
-      acts-more {stop} {end₂} {last} {f} {every} {both} r w =
+      pub acts-more : {all : Out} {both : Bool} → rest ≡ Ok all → both ≡ (one.first && all.every)
+          → ActsRead (many_in (node_in arms depth vars cs s) handler later left n at) at n m (out all.next all.count all.nodes one.first both) t u
+      acts-more {both = both} q w =
           let x = act-got at n m _ a o in
-          let y = acts-got next end nodes₁ _ b r in
+          let y = acts-got one.next one.count one.nodes _ b q in
           let k = (node-reads arms depth vars cs s handler n at).holds x.is in
           more-found _ at n m t u x.a y.l
-          (some ∙ (then_found _ _ x.is ∙ then_found _ _ (sym (ap (λ i. many_in (node_in arms depth vars cs s) later later (left - 1) i next) x.end_is) ∙ y.is)))
+          (some ∙ (then_found _ _ x.is ∙ then_found _ _ (sym (ap (λ i. many_in (node_in arms depth vars cs s) later later (left - 1) i one.next) x.end_is) ∙ y.is)))
           (omega (arith, y.end_is, x.end_is)) (omega (arith, y.last-is, x.last-is)) x.first-is (same-both w x.first-is y.every-is)
           (y.put_is ∙ put_on y.l k.ends x.end_is x.last-is x.put_is)
 
 -- an activity whose head and whose list are read
 pub whole-found : (g : Found Act) (at n m : ℕ) (t u : List ℕ) (own : Own) (l : Acts) {stop end last : ℕ} {start : Bool} → g ≡ found (act own l) stop
     → end ≡ n + (1 + sizes l) → last ≡ m + (own_nodes own + nodes_all l) → start ≡ starts (kind own) (first_starts l) (every_starts l)
-    → u ≡ put (act own l) at n m t → ActRead g at n m (Out.Read stop end last start start) t u
+    → u ≡ put (act own l) at n m t → ActRead g at n m (out stop end last start start) t u
 unfolding out_of Put size nodes start_form
 whole-found g at n m t u own l e i j s p = rw (e, i, j, s) (record { is = refl; put = p })
 
@@ -332,12 +334,12 @@ put_whole own l at n m t z c e j w i s p q = q ∙ rw (z, i, s, p, j, w, e, c)
 
 -- `activity_at`
 module _ (arm : Bool) (depth vars : ℕ) (cs s : List ℕ) (handler : Bool) (n at m : ℕ) (t : List ℕ) where
-  pub act-no-own : (u : List ℕ) {own : code.Own} {number place : ℕ} → OwnRead (node_head_in arm vars cs s handler depth n at) at n m own t u
-      → own ≡ code.Own.Refused number place → ActRead (node_in arm depth vars cs s handler n at) at n m (Out.Refused number place) t u
+  pub act-no-own : (u : List ℕ) {own : Result code.Own Refusal} {y : Refusal} → OwnRead (node_head_in arm vars cs s handler depth n at) at n m own t u
+      → own ≡ Err y → ActRead (node_in arm depth vars cs s handler n at) at n m (Err y) t u
   act-no-own u a o = act-refused at n m _ t u (no-level vars cs s handler n at arm depth (own-no _ at n m a o))
 
-  module _ (t₁ t₂ : List ℕ) {own : code.Own} {k within next nodes₁ : ℕ} {later : Bool} {below : ℕ} {all : Out}
-      (a : OwnRead (node_head_in arm vars cs s handler depth n at) at n m own t t₁) (o : own ≡ code.Own.Read k within next nodes₁)
+  module _ (t₁ t₂ : List ℕ) {own : Result code.Own Refusal} {k within next nodes₁ : ℕ} {later : Bool} {below : ℕ} {all : Result Out Refusal}
+      (a : OwnRead (node_head_in arm vars cs s handler depth n at) at n m own t t₁) (o : own ≡ Ok (code.Own.Read k within next nodes₁))
       (i : later ≡ (is_scope_code k || handler)) (j : below ≡ levels_below arm depth)
       (b : ActsRead (many_in (node_in (eqb k 10) below vars cs s) handler later within (n + 1) next) next (n + 1) nodes₁ all t₁ t₂) where
     x : Said (node_head_in arm vars cs s handler depth n at) at n m k within next nodes₁ t t₁
@@ -352,14 +354,14 @@ module _ (arm : Bool) (depth vars : ℕ) (cs s : List ℕ) (handler : Bool) (n a
         ≡ many_in (node_in (eqb k 10) below vars cs s) handler later within (n + 1) next
     list h e f = rw (i, j, e, f, kind-scope h.own, kind-pick h.own)
 
-    pub act-no-within : {number place : ℕ} → all ≡ Out.Refused number place → ActRead (node_in arm depth vars cs s handler n at) at n m all t t₂
+    pub act-no-within : {y : Refusal} → all ≡ Err y → ActRead (node_in arm depth vars cs s handler n at) at n m (Err y) t t₂
     act-no-within r =
-        rw r (act-refused at n m _ t t₂
-        (level vars cs s handler n at arm depth x.is ∙ rw x.plain (then-refused _ _ (list x.h x.same x.many ∙ acts-no next (n + 1) nodes₁ _ b r))))
+        act-refused at n m _ t t₂
+        (level vars cs s handler n at arm depth x.is ∙ rw x.plain (then-refused _ _ (list x.h x.same x.many ∙ acts-no next (n + 1) nodes₁ _ b r)))
 
-    pub act-whole : (u : List ℕ) {stop end last : ℕ} {first every start : Bool} → all ≡ Out.Read stop end last first every
-        → u ≡ put_close n end stop t₂ → start ≡ starts k first every
-        → ActRead (node_in arm depth vars cs s handler n at) at n m (Out.Read stop end last start start) t u
+    pub act-whole : (u : List ℕ) {rest : Out} {start : Bool} → all ≡ Ok rest
+        → u ≡ put_close n rest.count rest.next t₂ → start ≡ starts k rest.first rest.every
+        → ActRead (node_in arm depth vars cs s handler n at) at n m (out rest.next rest.count rest.nodes start start) t u
     act-whole u r w z =
         let y = acts-got next (n + 1) nodes₁ _ b r in
         let c = (many-count (node_in (eqb k 10) below vars cs s) handler later within (n + 1) next).holds y.is in
@@ -375,8 +377,8 @@ falls-same : (b : Bool) (depth : ℕ) (own : Own) {below t₀ k within w : ℕ} 
     → weigh (is_pick own) (levels_below b depth) + (1 + w) < weigh b depth → weigh (eqb k 10) below + (1 + within) < t₀
 falls-same b depth own e f i l h = rw (← f, e, i, l, kind-pick own) h
 
-module _ (arm : Bool) (depth vars : ℕ) (cs s : List ℕ) (handler : Bool) (n at m : ℕ) {t t₁ : List ℕ} {own : code.Own} {k within next nodes₁ : ℕ}
-    (a : OwnRead (node_head_in arm vars cs s handler depth n at) at n m own t t₁) (o : own ≡ code.Own.Read k within next nodes₁) where
+module _ (arm : Bool) (depth vars : ℕ) (cs s : List ℕ) (handler : Bool) (n at m : ℕ) {t t₁ : List ℕ} {own : Result code.Own Refusal} {k within next nodes₁ : ℕ}
+    (a : OwnRead (node_head_in arm vars cs s handler depth n at) at n m own t t₁) (o : own ≡ Ok (code.Own.Read k within next nodes₁)) where
   said : Said (node_head_in arm vars cs s handler depth n at) at n m k within next nodes₁ t t₁
   said = own-got _ at n m a o
 
@@ -409,15 +411,15 @@ module _ (arm : Bool) (depth vars : ℕ) (cs s : List ℕ) (handler : Bool) (n a
   pub own-falls : (below t₀ : ℕ) → below ≡ levels_below arm depth → weigh arm depth ≡ t₀ → weigh (eqb k 10) below + (1 + within) < t₀
   own-falls below t₀ e f = falls-same arm depth said.h.own e f said.same said.many noded.falls
 
-module _ (arms : Bool) (depth vars : ℕ) (cs s : List ℕ) (handler : Bool) (n at m : ℕ) {t t₁ : List ℕ} {one : Out} {next end nodes₁ : ℕ} {first every : Bool}
-    (a : ActRead (node_in arms depth vars cs s handler n at) at n m one t t₁) (o : one ≡ Out.Read next end nodes₁ first every) where
-  read_one : OneRead (node_in arms depth vars cs s handler n at) at n m next end nodes₁ first every t t₁
+module _ (arms : Bool) (depth vars : ℕ) (cs s : List ℕ) (handler : Bool) (n at m : ℕ) {t t₁ : List ℕ} {r : Result Out Refusal} {one : Out}
+    (a : ActRead (node_in arms depth vars cs s handler n at) at n m r t t₁) (o : r ≡ Ok one) where
+  read_one : OneRead (node_in arms depth vars cs s handler n at) at n m one.next one.count one.nodes one.first one.every t t₁
   read_one = act-got at n m _ a o
 
-  pub one-numbered : end ≤ 256
+  pub one-numbered : one.count ≤ 256
   one-numbered = omega (arith, read_one.end_is, (node-numbered arms depth vars cs s handler n at).holds read_one.is)
 
-  pub one-base : Base s vars m at → Base s vars nodes₁ next
+  pub one-base : Base s vars m at → Base s vars one.nodes one.next
   one-base b =
       let e = (node-reads arms depth vars cs s handler n at).holds read_one.is in
       let f = stands-forward e (act-some read_one.a) in
@@ -428,27 +430,26 @@ module _ (arms : Bool) (depth vars : ℕ) (cs s : List ℕ) (handler : Bool) (n 
         placed = omega (arith, b.short, f.1);
       }
 
-module _ (arms : Bool) (depth vars : ℕ) (cs s : List ℕ) (handler later : Bool) (left n at m : ℕ) {t t₁ : List ℕ} {all : Out} {next end nodes₁ : ℕ}
-    {first every : Bool} (a : ActsRead (many_in (node_in arms depth vars cs s) handler later left n at) at n m all t t₁)
-    (o : all ≡ Out.Read next end nodes₁ first every) where
-  read_all : AllRead (many_in (node_in arms depth vars cs s) handler later left n at) at n m next end nodes₁ first every t t₁
+module _ (arms : Bool) (depth vars : ℕ) (cs s : List ℕ) (handler later : Bool) (left n at m : ℕ) {t t₁ : List ℕ} {all : Result Out Refusal} {rest : Out} (a : ActsRead (many_in (node_in arms depth vars cs s) handler later left n at) at n m all t t₁)
+    (o : all ≡ Ok rest) where
+  read_all : AllRead (many_in (node_in arms depth vars cs s) handler later left n at) at n m rest.next rest.count rest.nodes rest.first rest.every t t₁
   read_all = acts-got at n m _ a o
 
-  pub all-numbered : n ≤ 256 → end ≤ 256
+  pub all-numbered : n ≤ 256 → rest.count ≤ 256
   all-numbered h =
       omega (arith, read_all.end_is, (many-numbered (node_in arms depth vars cs s) (node-numbered arms depth vars cs s) handler later left n at h).holds read_all.is)
 
-  pub all-base : Base s vars m at → at ≤ length s → next ≤ 4096
+  pub all-base : Base s vars m at → at ≤ length s → rest.next ≤ 4096
   all-base b h =
       let e = (many-stands s (node_in arms depth vars cs s) (node-reads arms depth vars cs s) handler later left n at).holds read_all.is in
       omega (arith, b.short, stands-inside e h)
 
 -- the place after an activity is one of a short slice's
-pub whole-stop : (b : Bool) (depth vars : ℕ) (cs s : List ℕ) (handler : Bool) (n at m : ℕ) {t t₁ t₂ : List ℕ} {own : code.Own} {k within next nodes₁ : ℕ}
-    → OwnRead (node_head_in b vars cs s handler depth n at) at n m own t t₁ → own ≡ code.Own.Read k within next nodes₁
-    → (arms : Bool) (below : ℕ) (later : Bool) {all : Out} {stop end last : ℕ} {first every : Bool}
-    → ActsRead (many_in (node_in arms below vars cs s) handler later within (n + 1) next) next (n + 1) nodes₁ all t₁ t₂ → all ≡ Out.Read stop end last first every
-    → Base s vars m at → stop ≤ 4096
+pub whole-stop : (b : Bool) (depth vars : ℕ) (cs s : List ℕ) (handler : Bool) (n at m : ℕ) {t t₁ t₂ : List ℕ} {own : Result code.Own Refusal} {k within next nodes₁ : ℕ}
+    → OwnRead (node_head_in b vars cs s handler depth n at) at n m own t t₁ → own ≡ Ok (code.Own.Read k within next nodes₁)
+    → (arms : Bool) (below : ℕ) (later : Bool) {all : Result Out Refusal} {rest : Out}
+    → ActsRead (many_in (node_in arms below vars cs s) handler later within (n + 1) next) next (n + 1) nodes₁ all t₁ t₂ → all ≡ Ok rest
+    → Base s vars m at → rest.next ≤ 4096
 whole-stop b depth vars cs s handler n at m a o arms below later l r c =
     let x = own-got _ at n m a o in
     let e = rw x.plain at ((node-stands b vars cs s handler depth n at).holds x.is) in

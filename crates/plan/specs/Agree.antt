@@ -1,5 +1,5 @@
 -- Meaning: whether the receives of a plan agree: document 02, request 8, and refusal 21. Assumes nothing: these are definitions.
-use Rattle.std.specs.Prelude.{ℕ, ◌+◌, Bool, true, false, cond, not, ◌&&◌, ◌||◌, List, [], ◌∷◌, ◌++◌, eqb, length}
+use Rattle.std.specs.Prelude.{ℕ, ◌+◌, Bool, true, cond, not, ◌&&◌, ◌||◌, List, [], ◌∷◌, ◌++◌, eqb, length}
 use Rattle.plan.specs.Found.{Found, refused}
 use Rattle.plan.specs.Spell.{spell, own_numbers, gaps_of, later}
 use Rattle.plan.specs.Table.{body_place}

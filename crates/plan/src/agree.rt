@@ -6,26 +6,6 @@ ghost use Rattle.plan.specs.Heard.{noted, heard, heard_all, ahead_of, row_asked,
 use super::code;
 use super::table::{COUNT, KIND, OPERATION, PARTNER, PLACE, WIDTH};
 
-fn wide(x: u32) -> usize
-    ensures is { result ≡ x }
-    ensures small { result ≤ 4294967295 }
-{
-    x as usize
-}
-
-fn number(x: u8) -> usize
-    ensures { result ≡ x }
-{
-    x as usize
-}
-
-// A count as a byte: those of a plan are 1 to 4.
-fn byte(many: usize) -> u8
-    ensures { result ≡ many % 256 }
-{
-    (many % 256) as u8
-}
-
 // A receive or an arm is heard: its count where it is the first for its pair, and its place where it is the first that differs.
 pub fn hear(
     counts: &mut [u8; 4096],
@@ -38,15 +18,12 @@ pub fn hear(
     ensures { noted counts.new differs.new ≡ heard (asking partner operation many place) (noted counts.old differs.old) }
 {
     let i = partner % 64 * 64 + operation % 64;
-    let before = number(counts[i]);
+    let before = usize::from(counts[i]);
     if before == 0 {
-        counts[i] = byte(many);
-    } else {
-        if before != many {
-            if *differs == 0 {
-                *differs = place;
-            }
-        }
+        // a count of a plan is 1 to 4, and fits a byte
+        counts[i] = (many % 256) as u8;
+    } else if before != many && *differs == 0 {
+        *differs = place;
     }
 }
 
@@ -56,7 +33,7 @@ fn column(table: &[u32], k: usize, c: usize) -> usize
     ensures is { result ≡ get_or table.now (k * 13 + c) 0 }
     ensures small { result ≤ 4294967295 }
 {
-    wide(table[k * WIDTH + c])
+    table[k * WIDTH + c] as usize
 }
 
 // How many bytes stand before the count of a receive, or of an arm; 0 for all else.
@@ -65,8 +42,7 @@ fn ahead(kind: usize) -> usize
     ensures small { result ≤ 3 }
 {
     match kind {
-        code::RECEIVE => 3,
-        code::ASKING_RECEIVE => 3,
+        code::RECEIVE | code::ASKING_RECEIVE => 3,
         code::ARM => 2,
         _ => 0,
     }
@@ -99,10 +75,8 @@ pub(crate) fn first_differing(table: &[u32], n: usize) -> usize
 {
     let mut counts = [0u8; 4096];
     let mut differs: usize = 0;
-    let mut k: usize = 0;
-    while k < n {
+    for k in 0..n {
         hear_row(table, k, &mut counts, &mut differs);
-        k += 1;
     }
     differs
 }

@@ -1,4 +1,5 @@
 // The kinds of activities (kind.rt) as numbers as wide as places, for those who read them among such.
+// Stays: (d) a second set beside kind.rt: a pattern is of its value's type, so `kind as u32` would stand at each match of the writer, the sheet and the rows.
 
 pub const EMPTY: usize = super::kind::EMPTY as usize;
 

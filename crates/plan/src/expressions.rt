@@ -7,33 +7,26 @@ ghost use Rattle.plan.specs.Read.{expression_code_in, expression_in};
 
 use super::fields::{field_at, number_at};
 use super::table::{Table, write_node};
-use super::{Field, Nodes};
+use super::{Nodes, Refusal};
+use numbers::Number;
 
 // The code of an expression.
-fn expression_code_at(s: &[u8], at: usize) -> Field
+fn expression_code_at(s: &[u8], at: usize) -> Result<Number, Refusal>
     ensures is { result ≡ field_of (expression_code_in s.now at) }
     ensures fits { NumberFits s.now at result }
 {
-    let read = number_at(s, at);
-    match read {
-        Field::Refused {
-            number: _,
-            place: _,
-        } => read,
-        Field::Got { value, next: _ } => {
-            if 5 < value {
-                return Field::Refused {
-                    number: 4,
-                    place: at,
-                };
-            }
-            read
-        }
+    let read = number_at(s, at)?;
+    if 5 < read.value {
+        return Err(Refusal {
+            number: 4,
+            place: at,
+        });
     }
+    Ok(read)
 }
 
 // The value of a constant, whose code is 0, or the number of a variable.
-fn leaf_at(s: &[u8], at: usize, code: u32, vars: u32) -> Field
+fn leaf_at(s: &[u8], at: usize, code: u32, vars: u32) -> Result<Number, Refusal>
     ensures is { result ≡ field_of (cond (eqb code 0) (number_in s.now at) (field_in s.now 0 vars at)) }
     ensures fits { NumberFits s.now at result }
 {
@@ -52,45 +45,26 @@ pub(crate) fn expression_at(
     vars: u32,
     m: usize,
     table: &mut Table,
-) -> Nodes
+) -> Result<Nodes, Refusal>
     requires { (length s.now ≤ 4096) × (m ≤ at) }
     ensures { NodesRead (expression_in depth vars s.now at) m result table.old table.new }
 {
-    let c = expression_code_at(s, at);
-    match c {
-        Field::Refused { number, place } => Nodes::Refused { number, place },
-        Field::Got { value: code, next } => {
-            if depth == 0 {
-                return Nodes::Refused {
-                    number: 6,
-                    place: at,
-                };
-            }
-            if code < 2 {
-                let v = leaf_at(s, next, code, vars);
-                match v {
-                    Field::Refused { number, place } => Nodes::Refused { number, place },
-                    Field::Got { value, next: after } => {
-                        write_node(table, m, code, value);
-                        Nodes::Read {
-                            next: after,
-                            nodes: m + 1,
-                        }
-                    }
-                }
-            } else {
-                let left = expression_at(s, next, depth - 1, vars, m + 1, table);
-                match left {
-                    Nodes::Refused {
-                        number: _,
-                        place: _,
-                    } => left,
-                    Nodes::Read { next: p, nodes } => {
-                        write_node(table, m, code, nodes as u32);
-                        expression_at(s, p, depth - 1, vars, nodes, table)
-                    }
-                }
-            }
-        }
+    let code = expression_code_at(s, at)?;
+    if depth == 0 {
+        return Err(Refusal {
+            number: 6,
+            place: at,
+        });
     }
+    if code.value < 2 {
+        let leaf = leaf_at(s, code.next, code.value, vars)?;
+        write_node(table, m, code.value, leaf.value);
+        return Ok(Nodes {
+            next: leaf.next,
+            nodes: m + 1,
+        });
+    }
+    let left = expression_at(s, code.next, depth - 1, vars, m + 1, table)?;
+    write_node(table, m, code.value, left.nodes as u32);
+    expression_at(s, left.next, depth - 1, vars, left.nodes, table)
 }

@@ -5,117 +5,72 @@ ghost use Rattle.plan.specs.Fits.{NumberFits, FieldFits};
 ghost use Rattle.plan.specs.Found.{refused, number_in, field_in};
 ghost use Rattle.plan.specs.Read.{variables_in, tuple_in};
 
-use super::{Field, Tuple, reading};
+use super::{Refusal, Tuple, reading};
 use numbers::{Number, Trouble};
 
 // The number at `at`.
-pub(crate) fn number_at(s: &[u8], at: usize) -> Field
+pub(crate) fn number_at(s: &[u8], at: usize) -> Result<Number, Refusal>
     ensures is { result ≡ field_of (number_in s.now at) }
     ensures fits { NumberFits s.now at result }
 {
     match reading::read(s, at) {
-        Ok(Number { value, next }) => Field::Got { value, next },
-        Err(Trouble::Short) => Field::Refused {
+        Ok(number) => Ok(number),
+        Err(Trouble::Short) => Err(Refusal {
             number: 2,
             place: s.len(),
-        },
-        Err(Trouble::Bad) => Field::Refused {
+        }),
+        Err(Trouble::Bad) => Err(Refusal {
             number: 3,
             place: at,
-        },
+        }),
     }
 }
 
 // The number at `at`, at least `least` and below `limit`.
-pub(crate) fn field_at(s: &[u8], at: usize, least: u32, limit: u32) -> Field
+pub(crate) fn field_at(s: &[u8], at: usize, least: u32, limit: u32) -> Result<Number, Refusal>
     ensures is { result ≡ field_of (field_in s.now least limit at) }
     ensures fits { FieldFits s.now at least limit result }
 {
-    let read = number_at(s, at);
-    match read {
-        Field::Refused {
-            number: _,
-            place: _,
-        } => read,
-        Field::Got { value, next: _ } => {
-            if value < least {
-                return Field::Refused {
-                    number: 5,
-                    place: at,
-                };
-            }
-            if limit <= value {
-                return Field::Refused {
-                    number: 5,
-                    place: at,
-                };
-            }
-            read
-        }
+    let read = number_at(s, at)?;
+    if read.value < least || limit <= read.value {
+        return Err(Refusal {
+            number: 5,
+            place: at,
+        });
     }
-}
-
-// A refused tuple.
-fn no_tuple(number: u32, place: usize) -> Tuple
-    ensures { result ≡ tuple_of (refused number place) }
-{
-    Tuple {
-        out: Field::Refused { number, place },
-        variables: [0u32; 4],
-    }
-}
-
-// Whether a variable that is flagged so may not stand here.
-fn barred(once: bool, flag: u8) -> bool
-    ensures { result ≡ (once && eqb flag 1) }
-{
-    if once { flag == 1 } else { false }
+    Ok(read)
 }
 
 // `count` variables from `at` on; where `once` holds, none twice.
-fn variables_at(s: &[u8], at: usize, count: u32, vars: u32, once: bool) -> Tuple
+fn variables_at(s: &[u8], at: usize, count: u32, vars: u32, once: bool) -> Result<Tuple, Refusal>
     requires { (count ≤ 4) × (vars ≤ 16) }
     ensures { result ≡ tuple_of (variables_in vars once s.now count [] at) }
 {
     let mut variables = [0u32; 4];
-    let mut seen = [0u8; 16];
-    let mut i: usize = 0;
-    let mut p = at;
-    while i < count as usize {
-        let f = field_at(s, p, 0, vars);
-        match f {
-            Field::Refused { number, place } => {
-                return no_tuple(number, place);
-            }
-            Field::Got { value, next } => {
-                let v = value as usize;
-                if barred(once, seen[v]) {
-                    return no_tuple(5, p);
-                }
-                seen[v] = 1;
-                variables[i] = value;
-                i += 1;
-                p = next;
-            }
+    let mut next = at;
+    for i in 0..count as usize {
+        let f = field_at(s, next, 0, vars)?;
+        if once && variables[..i].contains(&f.value) {
+            return Err(Refusal {
+                number: 5,
+                place: next,
+            });
         }
+        variables[i] = f.value;
+        next = f.next;
     }
-    Tuple {
-        out: Field::Got {
-            value: count,
-            next: p,
-        },
+    Ok(Tuple {
+        count,
         variables,
-    }
+        next,
+    })
 }
 
 // A tuple: its count, 1 to 4, and its variables.
-pub(crate) fn tuple_at(s: &[u8], at: usize, vars: u32, once: bool) -> Tuple
+pub(crate) fn tuple_at(s: &[u8], at: usize, vars: u32, once: bool) -> Result<Tuple, Refusal>
     requires { vars ≤ 16 }
     ensures { result ≡ tuple_of (tuple_in vars once s.now at) }
 {
-    let f = field_at(s, at, 1, 5);
-    match f {
-        Field::Refused { number, place } => no_tuple(number, place),
-        Field::Got { value, next } => variables_at(s, next, value, vars, once),
-    }
+    let count = field_at(s, at, 1, 5)?;
+    variables_at(s, count.next, count.value, vars, once)
 }

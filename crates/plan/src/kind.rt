@@ -1,4 +1,5 @@
 // The kinds of activities, by document 01's codes; an arm of a pick, which has no code, has a kind of its own.
+// Stays: (a) numbers and no enum: a row of the table holds its kind in a cell of u32, and `kind` of specs/Tree.antt, by which `table_for` writes it, is a number.
 
 pub const EMPTY: u32 = 0;
 

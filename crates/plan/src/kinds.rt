@@ -8,10 +8,5 @@ use super::kind;
 pub(crate) fn is_scope(kind: u32) -> bool
     ensures { result ≡ is_scope_code kind }
 {
-    match kind {
-        kind::SCOPE => true,
-        kind::OPEN_SCOPE => true,
-        kind::NUMBERED_SCOPE => true,
-        _ => false,
-    }
+    matches!(kind, kind::SCOPE | kind::OPEN_SCOPE | kind::NUMBERED_SCOPE)
 }

@@ -22,36 +22,31 @@ ghost use Rattle.plan.specs.Read.{read_plan};
 use table::{LENGTH, Table};
 
 // The reading head: the lent bytes and a place in them.
+// Stays: (a) docs/DECISIONS.md names it as what every number of a plan is read through.
 #[derive(Clone, Copy)]
 pub struct Head<'a> {
     pub bytes: &'a [u8],
     pub place: usize,
 }
 
-// What reading one number finds.
-#[derive(Clone, Copy)]
-pub enum Field {
-    Got { value: u32, next: usize },
-    Refused { number: u32, place: usize },
-}
-
-// What reading a tuple finds: its count as the value, and beside it its variables, with zeros behind them.
-#[derive(Clone, Copy)]
+// A tuple that is read: how many variables, and these, with zeros behind them; and the next place.
+#[derive(Clone, Copy, PartialEq, Eq, Debug)]
 pub struct Tuple {
-    pub out: Field,
+    pub count: u32,
     pub variables: [u32; 4],
+    pub next: usize,
 }
 
-// What reading an expression finds: the next place and the number of the next node.
-#[derive(Clone, Copy)]
-pub enum Nodes {
-    Read { next: usize, nodes: usize },
-    Refused { number: u32, place: usize },
+// An expression that is read: the next place, and the number of the next node.
+#[derive(Clone, Copy, PartialEq, Eq, Debug)]
+pub struct Nodes {
+    pub next: usize,
+    pub nodes: usize,
 }
 
-// What reading an activity's own numbers finds: its kind, how many stand directly within it, the next place and the number of the next node; of a scope with
+// An activity's own numbers, where they are read: its kind, how many stand directly within it, the next place and the number of the next node; of a scope with
 // fault parts by number only the place of its body, since its numbers stand between its parts.
-#[derive(Clone, Copy)]
+#[derive(Clone, Copy, PartialEq, Eq, Debug)]
 pub enum Own {
     Read {
         kind: u32,
@@ -62,27 +57,17 @@ pub enum Own {
     Numbered {
         body: usize,
     },
-    Refused {
-        number: u32,
-        place: usize,
-    },
 }
 
-// What reading activities finds: the next place, the number of the next activity and of the next node, and whether the first and whether
+// Activities that are read: the next place, the number of the next activity and of the next node, and whether the first and whether
 // every one of them is a start form.
-#[derive(Clone, Copy)]
-pub enum Out {
-    Read {
-        next: usize,
-        count: usize,
-        nodes: usize,
-        first: bool,
-        every: bool,
-    },
-    Refused {
-        number: u32,
-        place: usize,
-    },
+#[derive(Clone, Copy, PartialEq, Eq, Debug)]
+pub struct Out {
+    pub next: usize,
+    pub count: usize,
+    pub nodes: usize,
+    pub first: bool,
+    pub every: bool,
 }
 
 // Why bytes are no plan: the refusal's number, and the place of the byte in trouble.

@@ -6,68 +6,36 @@ ghost use Rattle.plan.specs.Found.{among};
 ghost use Rattle.plan.specs.Numbering.{backwards};
 ghost use Rattle.plan.specs.Read.{namable, fault_number_in};
 
-use super::Field;
+use super::Refusal;
 use super::fields::number_at;
+use numbers::Number;
 
 // Whether a fault part may have this number.
 fn is_namable(x: u32) -> bool
     ensures { result ≡ namable x }
 {
-    if x <= 5 {
-        return true;
-    }
-    if 16 <= x { x <= 255 } else { false }
-}
-
-// Whether a number is among the first k.
-pub(crate) fn is_among(x: u32, numbers: [u32; 8], k: usize) -> bool
-    requires { k ≤ 8 }
-    ensures { result ≡ among x (backwards k numbers) }
-{
-    let mut i = k;
-    while i > 0 {
-        i -= 1;
-        if x == numbers[i] {
-            return true;
-        }
-    }
-    false
-}
-
-// Whether a fault part may have this number behind those with the first k.
-fn may_have(x: u32, numbers: [u32; 8], k: usize) -> bool
-    requires { k ≤ 8 }
-    ensures { result ≡ (namable x && not (among x (backwards k numbers))) }
-{
-    if is_namable(x) {
-        if is_among(x, numbers, k) { false } else { true }
-    } else {
-        false
-    }
+    x <= 5 || 16 <= x && x <= 255
 }
 
 // The number at `at`, of the fault part behind those with the first k.
-pub(crate) fn fault_number_at(s: &[u8], at: usize, numbers: [u32; 8], k: usize) -> Field
+pub(crate) fn fault_number_at(
+    s: &[u8],
+    at: usize,
+    numbers: [u32; 8],
+    k: usize,
+) -> Result<Number, Refusal>
     requires { k ≤ 8 }
     ensures is { result ≡ field_of (fault_number_in s.now (backwards k numbers) at) }
     ensures fits { NumberFits s.now at result }
 {
-    let read = number_at(s, at);
-    match read {
-        Field::Refused {
-            number: _,
-            place: _,
-        } => read,
-        Field::Got { value, next: _ } => {
-            if may_have(value, numbers, k) {
-                return read;
-            }
-            Field::Refused {
-                number: 5,
-                place: at,
-            }
-        }
+    let read = number_at(s, at)?;
+    if is_namable(read.value) && !numbers[..k].contains(&read.value) {
+        return Ok(read);
     }
+    Err(Refusal {
+        number: 5,
+        place: at,
+    })
 }
 
 // The numbers with one more behind the first k.

@@ -12,7 +12,8 @@ use super::fields::{field_at, number_at, tuple_at};
 use super::kinds::is_scope;
 use super::replies::{asking_receive_own, held_send_own};
 use super::table::{Table, write_row};
-use super::{Field, Nodes, Own, kind};
+use super::{Own, Refusal, kind};
+use numbers::Number;
 
 // An activity whose own numbers are all read.
 fn plain_own(
@@ -23,18 +24,18 @@ fn plain_own(
     m: usize,
     place: usize,
     table: &mut Table,
-) -> Own
+) -> Result<Own, Refusal>
     requires { (n < 256) × (place ≤ 4096) }
-    ensures is { result ≡ Own.Read kind within at m }
+    ensures is { result ≡ Ok (Own.Read kind within at m) }
     ensures put { table.new ≡ put_row n (row kind 0 0 [] 0 0 place) table.old }
 {
     write_row(table, n, kind, 0, 0, 0, [0u32; 4], 0, 0, place);
-    Own::Read {
+    Ok(Own::Read {
         kind,
         within,
         next: at,
         nodes: m,
-    }
+    })
 }
 
 // Operation, count and variables; of a send or a receive with a reply partner its row is written as if that were 0.
@@ -50,39 +51,30 @@ pub(crate) fn exchange_own(
     m: usize,
     place: usize,
     table: &mut Table,
-) -> Own
+) -> Result<Own, Refusal>
     requires { Room s.now vars n m place at × (IsMessage kind × (partner < 64)) }
     ensures { OwnRead (exchange_in vars once s.now (message_own kind partner) within at) place n m result table.old table.new }
 {
-    let o = field_at(s, at, 0, 64);
-    match o {
-        Field::Refused { number, place } => Own::Refused { number, place },
-        Field::Got {
-            value: operation,
-            next,
-        } => {
-            let t = tuple_at(s, next, vars, once);
-            let out = t.out;
-            match out {
-                Field::Refused { number, place } => Own::Refused { number, place },
-                Field::Got {
-                    value: count,
-                    next: after,
-                } => {
-                    let variables = t.variables;
-                    write_row(
-                        table, n, kind, partner, operation, count, variables, 0, 0, place,
-                    );
-                    Own::Read {
-                        kind,
-                        within,
-                        next: after,
-                        nodes: m,
-                    }
-                }
-            }
-        }
-    }
+    let operation = field_at(s, at, 0, 64)?;
+    let t = tuple_at(s, operation.next, vars, once)?;
+    write_row(
+        table,
+        n,
+        kind,
+        partner,
+        operation.value,
+        t.count,
+        t.variables,
+        0,
+        0,
+        place,
+    );
+    Ok(Own::Read {
+        kind,
+        within,
+        next: t.next,
+        nodes: m,
+    })
 }
 
 // A send or a receive.
@@ -96,41 +88,58 @@ fn partner_own(
     m: usize,
     place: usize,
     table: &mut Table,
-) -> Own
+) -> Result<Own, Refusal>
     requires { Room s.now vars n m place at × IsMessage kind }
     ensures { OwnRead (partner_in vars once s.now (message_own kind) at) place n m result table.old table.new }
 {
-    let p = field_at(s, at, 0, 64);
-    match p {
-        Field::Refused { number, place } => Own::Refused { number, place },
-        Field::Got {
-            value: partner,
-            next,
-        } => exchange_own(s, next, kind, partner, once, 0, vars, n, m, place, table),
-    }
+    let partner = field_at(s, at, 0, 64)?;
+    exchange_own(
+        s,
+        partner.next,
+        kind,
+        partner.value,
+        once,
+        0,
+        vars,
+        n,
+        m,
+        place,
+        table,
+    )
 }
 
 // An arm, from its partner number on.
-fn arm_own(s: &[u8], at: usize, vars: u32, n: usize, m: usize, table: &mut Table) -> Own
+fn arm_own(
+    s: &[u8],
+    at: usize,
+    vars: u32,
+    n: usize,
+    m: usize,
+    table: &mut Table,
+) -> Result<Own, Refusal>
     requires { Base s.now vars m at }
     ensures { OwnRead (arm_in vars s.now n at) at n m result table.old table.new }
 {
-    let p = field_at(s, at, 0, 64);
-    match p {
-        Field::Refused { number, place } => Own::Refused { number, place },
-        Field::Got {
-            value: partner,
-            next,
-        } => {
-            if 256 <= n {
-                return Own::Refused {
-                    number: 6,
-                    place: at,
-                };
-            }
-            exchange_own(s, next, kind::ARM, partner, true, 1, vars, n, m, at, table)
-        }
+    let partner = field_at(s, at, 0, 64)?;
+    if 256 <= n {
+        return Err(Refusal {
+            number: 6,
+            place: at,
+        });
     }
+    exchange_own(
+        s,
+        partner.next,
+        kind::ARM,
+        partner.value,
+        true,
+        1,
+        vars,
+        n,
+        m,
+        at,
+        table,
+    )
 }
 
 // An activity with an expression.
@@ -145,23 +154,18 @@ fn expression_own(
     m: usize,
     place: usize,
     table: &mut Table,
-) -> Own
+) -> Result<Own, Refusal>
     requires { Room s.now vars n m place at × IsExpression kind variable }
     ensures { OwnRead (with_expression_in vars s.now (expression_own kind variable) within at) place n m result table.old table.new }
 {
-    let e = expression_at(s, at, 8, vars, m, table);
-    match e {
-        Nodes::Refused { number, place } => Own::Refused { number, place },
-        Nodes::Read { next, nodes } => {
-            write_row(table, n, kind, 0, 0, 0, [0u32; 4], variable, m, place);
-            Own::Read {
-                kind,
-                within,
-                next,
-                nodes,
-            }
-        }
-    }
+    let e = expression_at(s, at, 8, vars, m, table)?;
+    write_row(table, n, kind, 0, 0, 0, [0u32; 4], variable, m, place);
+    Ok(Own::Read {
+        kind,
+        within,
+        next: e.next,
+        nodes: e.nodes,
+    })
 }
 
 // A set: a variable that is not for correlation, and an expression.
@@ -174,25 +178,29 @@ fn set_own(
     m: usize,
     place: usize,
     table: &mut Table,
-) -> Own
+) -> Result<Own, Refusal>
     requires { Room s.now vars n m place at }
     ensures { OwnRead (set_in vars (chosen 0 correlation.now) s.now at) place n m result table.old table.new }
 {
-    let v = field_at(s, at, 0, vars);
-    match v {
-        Field::Refused { number, place } => Own::Refused { number, place },
-        Field::Got { value, next } => {
-            let i = value as usize;
-            let flag = correlation[i];
-            if flag == 1 {
-                return Own::Refused {
-                    number: 5,
-                    place: at,
-                };
-            }
-            expression_own(s, next, kind::SET, value, 0, vars, n, m, place, table)
-        }
+    let variable = field_at(s, at, 0, vars)?;
+    if correlation[variable.value as usize] == 1 {
+        return Err(Refusal {
+            number: 5,
+            place: at,
+        });
     }
+    expression_own(
+        s,
+        variable.next,
+        kind::SET,
+        variable.value,
+        0,
+        vars,
+        n,
+        m,
+        place,
+        table,
+    )
 }
 
 // A list of activities or arms: a count below `limit`.
@@ -205,112 +213,93 @@ fn list_own(
     m: usize,
     place: usize,
     table: &mut Table,
-) -> Own
+) -> Result<Own, Refusal>
     requires { IsList kind × ((n < 256) × (place ≤ 4096)) }
     ensures { OwnRead (list_in s.now (list_own kind) limit at) place n m result table.old table.new }
 {
-    let c = field_at(s, at, 1, limit);
-    match c {
-        Field::Refused { number, place } => Own::Refused { number, place },
-        Field::Got { value: count, next } => plain_own(next, kind, count, n, m, place, table),
-    }
+    let count = field_at(s, at, 1, limit)?;
+    plain_own(count.next, kind, count.value, n, m, place, table)
 }
 
 // A raise with a number.
-fn raise_own(s: &[u8], at: usize, n: usize, m: usize, place: usize, table: &mut Table) -> Own
+fn raise_own(
+    s: &[u8],
+    at: usize,
+    n: usize,
+    m: usize,
+    place: usize,
+    table: &mut Table,
+) -> Result<Own, Refusal>
     requires { (n < 256) × (place ≤ 4096) }
     ensures { OwnRead (raise_in s.now at) place n m result table.old table.new }
 {
-    let f = field_at(s, at, 16, 256);
-    match f {
-        Field::Refused { number, place } => Own::Refused { number, place },
-        Field::Got {
-            value: number,
-            next,
-        } => {
-            write_row(
-                table,
-                n,
-                kind::NUMBERED_RAISE,
-                number,
-                0,
-                0,
-                [0u32; 4],
-                0,
-                0,
-                place,
-            );
-            Own::Read {
-                kind: kind::NUMBERED_RAISE,
-                within: 0,
-                next,
-                nodes: m,
-            }
-        }
-    }
+    let fault = field_at(s, at, 16, 256)?;
+    write_row(
+        table,
+        n,
+        kind::NUMBERED_RAISE,
+        fault.value,
+        0,
+        0,
+        [0u32; 4],
+        0,
+        0,
+        place,
+    );
+    Ok(Own::Read {
+        kind: kind::NUMBERED_RAISE,
+        within: 0,
+        next: fault.next,
+        nodes: m,
+    })
 }
 
 // Whether no activity has this code.
 fn unknown(code: u32) -> bool
     ensures { result ≡ not (is_code code) }
 {
-    if code <= kind::LAST {
-        return false;
-    }
-    match code {
-        kind::HELD_SEND => false,
-        kind::ASKING_RECEIVE => false,
-        _ => true,
-    }
+    kind::LAST < code && !matches!(code, kind::HELD_SEND | kind::ASKING_RECEIVE)
 }
 
 // Whether a scope stands where none may.
 fn misplaced(code: u32, handler: bool) -> bool
     ensures { result ≡ (handler && is_scope_code code) }
 {
-    if handler { is_scope(code) } else { false }
+    handler && is_scope(code)
 }
 
 // Whether there is no level left, or no number.
 fn overrun(depth: usize, n: usize) -> bool
     ensures { result ≡ (eqb depth 0 || leb 256 n) }
 {
-    if depth == 0 { true } else { 256 <= n }
+    depth == 0 || 256 <= n
 }
 
 // The code of an activity.
-fn code_at(s: &[u8], at: usize, handler: bool, depth: usize, n: usize) -> Field
+fn code_at(s: &[u8], at: usize, handler: bool, depth: usize, n: usize) -> Result<Number, Refusal>
     ensures is { result ≡ field_of (code_in s.now handler depth n at) }
     ensures fits { NumberFits s.now at result }
 {
-    let read = number_at(s, at);
-    match read {
-        Field::Refused {
-            number: _,
-            place: _,
-        } => read,
-        Field::Got { value, next: _ } => {
-            if unknown(value) {
-                return Field::Refused {
-                    number: 4,
-                    place: at,
-                };
-            }
-            if misplaced(value, handler) {
-                return Field::Refused {
-                    number: 8,
-                    place: at,
-                };
-            }
-            if overrun(depth, n) {
-                return Field::Refused {
-                    number: 6,
-                    place: at,
-                };
-            }
-            read
-        }
+    let read = number_at(s, at)?;
+    if unknown(read.value) {
+        return Err(Refusal {
+            number: 4,
+            place: at,
+        });
     }
+    if misplaced(read.value, handler) {
+        return Err(Refusal {
+            number: 8,
+            place: at,
+        });
+    }
+    if overrun(depth, n) {
+        return Err(Refusal {
+            number: 6,
+            place: at,
+        });
+    }
+    Ok(read)
 }
 
 // The parts of an activity by its code.
@@ -324,7 +313,7 @@ fn parts_own(
     m: usize,
     place: usize,
     table: &mut Table,
-) -> Own
+) -> Result<Own, Refusal>
     requires { Room s.now vars n m place at }
     ensures { OwnRead (parts_in vars (chosen 0 correlation.now) s.now code at) place n m result table.old table.new }
 {
@@ -352,7 +341,7 @@ fn parts_own(
         kind::SCOPE => plain_own(at, kind::SCOPE, 3, n, m, place, table),
         kind::OPEN_SCOPE => plain_own(at, kind::OPEN_SCOPE, 2, n, m, place, table),
         kind::NUMBERED_RAISE => raise_own(s, at, n, m, place, table),
-        kind::NUMBERED_SCOPE => Own::Numbered { body: at },
+        kind::NUMBERED_SCOPE => Ok(Own::Numbered { body: at }),
         kind::HELD_SEND => held_send_own(s, at, vars, n, m, place, table),
         _ => asking_receive_own(s, at, vars, correlation, n, m, place, table),
     }
@@ -369,25 +358,12 @@ fn activity_own(
     n: usize,
     m: usize,
     table: &mut Table,
-) -> Own
+) -> Result<Own, Refusal>
     requires { Base s.now vars m at }
     ensures { OwnRead (head_in vars (chosen 0 correlation.now) s.now handler depth n at) at n m result table.old table.new }
 {
-    let c = code_at(s, at, handler, depth, n);
-    match c {
-        Field::Refused { number, place } => Own::Refused { number, place },
-        Field::Got { value: code, next } => parts_own(
-            s,
-            next,
-            code,
-            vars,
-            correlation,
-            n,
-            m,
-            at,
-            table,
-        ),
-    }
+    let code = code_at(s, at, handler, depth, n)?;
+    parts_own(s, code.next, code.value, vars, correlation, n, m, at, table)
 }
 
 // What the arm, or the activity, at `at` says of itself.
@@ -402,7 +378,7 @@ pub(crate) fn own_at(
     n: usize,
     m: usize,
     table: &mut Table,
-) -> Own
+) -> Result<Own, Refusal>
     requires { Base s.now vars m at }
     ensures { OwnRead (node_head_in arm vars (chosen 0 correlation.now) s.now handler depth n at) at n m result table.old table.new }
 {

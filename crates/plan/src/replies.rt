@@ -9,10 +9,10 @@ ghost use Rattle.plan.specs.Read.{held_send_in, asking_receive_in};
 ghost use Rattle.plan.specs.Store.{chosen};
 
 use super::fields::field_at;
-use super::named::is_among;
 use super::owns::exchange_own;
 use super::table::{COUNT, REPLY, Table, VARIABLE, VARIABLES, WIDTH, write_column};
-use super::{Field, Own, kind};
+use super::{Own, Refusal, kind};
+use numbers::Number;
 
 // A send to the partner that a variable holds: that variable, what it exchanges, and the reply partner.
 pub(crate) fn held_send_own(
@@ -23,58 +23,41 @@ pub(crate) fn held_send_own(
     m: usize,
     place: usize,
     table: &mut Table,
-) -> Own
+) -> Result<Own, Refusal>
     requires { Room s.now vars n m place at }
     ensures { OwnRead (held_send_in vars s.now at) place n m result table.old table.new }
 {
-    let v = field_at(s, at, 0, vars);
-    match v {
-        Field::Refused { number, place } => Own::Refused { number, place },
-        Field::Got {
-            value: variable,
+    let variable = field_at(s, at, 0, vars)?;
+    let sent = exchange_own(
+        s,
+        variable.next,
+        kind::HELD_SEND,
+        0,
+        false,
+        0,
+        vars,
+        n,
+        m,
+        place,
+        table,
+    )?;
+    match sent {
+        Own::Numbered { .. } => Ok(sent),
+        Own::Read {
+            kind,
+            within,
             next,
+            nodes,
         } => {
-            let x = exchange_own(
-                s,
-                next,
-                kind::HELD_SEND,
-                0,
-                false,
-                0,
-                vars,
-                n,
-                m,
-                place,
-                table,
-            );
-            match x {
-                Own::Refused { number, place } => Own::Refused { number, place },
-                Own::Numbered { body } => Own::Numbered { body },
-                Own::Read {
-                    kind,
-                    within,
-                    next: last,
-                    nodes,
-                } => {
-                    let f = field_at(s, last, 0, 64);
-                    match f {
-                        Field::Refused { number, place } => Own::Refused { number, place },
-                        Field::Got {
-                            value: reply,
-                            next: after,
-                        } => {
-                            write_column(table, n, REPLY, reply);
-                            write_column(table, n, VARIABLE, variable);
-                            Own::Read {
-                                kind,
-                                within,
-                                next: after,
-                                nodes,
-                            }
-                        }
-                    }
-                }
-            }
+            let reply = field_at(s, next, 0, 64)?;
+            write_column(table, n, REPLY, reply.value);
+            write_column(table, n, VARIABLE, variable.value);
+            Ok(Own::Read {
+                kind,
+                within,
+                next: reply.next,
+                nodes,
+            })
         }
     }
 }
@@ -84,8 +67,7 @@ fn spoken_for(table: &[u32], n: usize, variable: u32, correlation: &[u8; 16]) ->
     requires { ((n < 256) × (variable < 16)) × ((length table.now ≡ 11584) × (get_or table.now (n * 13 + 3) 0 ≤ 4)) }
     ensures { result ≡ (among variable (chosen 0 correlation.now) || among variable (named table.now n)) }
 {
-    let i = variable as usize;
-    if correlation[i] == 1 {
+    if correlation[variable as usize] == 1 {
         return true;
     }
     let b = n * WIDTH;
@@ -99,7 +81,7 @@ fn spoken_for(table: &[u32], n: usize, variable: u32, correlation: &[u8; 16]) ->
         0,
         0,
     ];
-    is_among(variable, others, table[b + COUNT] as usize)
+    others[..table[b + COUNT] as usize].contains(&variable)
 }
 
 // The variable that stores the reply partner of the receive of row n.
@@ -110,26 +92,18 @@ fn storing_at(
     correlation: &[u8; 16],
     table: &[u32],
     n: usize,
-) -> Field
+) -> Result<Number, Refusal>
     requires { ((n < 256) × (vars ≤ 16)) × ((length table.now ≡ 11584) × (get_or table.now (n * 13 + 3) 0 ≤ 4)) }
     ensures { result ≡ field_of (storing_in vars (chosen 0 correlation.now) (named table.now n) s.now at) }
 {
-    let v = field_at(s, at, 0, vars);
-    match v {
-        Field::Refused {
-            number: _,
-            place: _,
-        } => v,
-        Field::Got { value, next: _ } => {
-            if spoken_for(table, n, value, correlation) {
-                return Field::Refused {
-                    number: 5,
-                    place: at,
-                };
-            }
-            v
-        }
+    let variable = field_at(s, at, 0, vars)?;
+    if spoken_for(table, n, variable.value, correlation) {
+        return Err(Refusal {
+            number: 5,
+            place: at,
+        });
     }
+    Ok(variable)
 }
 
 // A receive that stores the reply partner: its partner, what it exchanges, and the variable that stores.
@@ -142,57 +116,40 @@ pub(crate) fn asking_receive_own(
     m: usize,
     place: usize,
     table: &mut Table,
-) -> Own
+) -> Result<Own, Refusal>
     requires { Room s.now vars n m place at }
     ensures { OwnRead (asking_receive_in vars (chosen 0 correlation.now) s.now at) place n m result table.old table.new }
 {
-    let p = field_at(s, at, 0, 64);
-    match p {
-        Field::Refused { number, place } => Own::Refused { number, place },
-        Field::Got {
-            value: partner,
+    let partner = field_at(s, at, 0, 64)?;
+    let received = exchange_own(
+        s,
+        partner.next,
+        kind::ASKING_RECEIVE,
+        partner.value,
+        true,
+        0,
+        vars,
+        n,
+        m,
+        place,
+        table,
+    )?;
+    match received {
+        Own::Numbered { .. } => Ok(received),
+        Own::Read {
+            kind,
+            within,
             next,
+            nodes,
         } => {
-            let x = exchange_own(
-                s,
-                next,
-                kind::ASKING_RECEIVE,
-                partner,
-                true,
-                0,
-                vars,
-                n,
-                m,
-                place,
-                table,
-            );
-            match x {
-                Own::Refused { number, place } => Own::Refused { number, place },
-                Own::Numbered { body } => Own::Numbered { body },
-                Own::Read {
-                    kind,
-                    within,
-                    next: last,
-                    nodes,
-                } => {
-                    let f = storing_at(s, last, vars, correlation, table, n);
-                    match f {
-                        Field::Refused { number, place } => Own::Refused { number, place },
-                        Field::Got {
-                            value: variable,
-                            next: after,
-                        } => {
-                            write_column(table, n, VARIABLE, variable);
-                            Own::Read {
-                                kind,
-                                within,
-                                next: after,
-                                nodes,
-                            }
-                        }
-                    }
-                }
-            }
+            let variable = storing_at(s, next, vars, correlation, table, n)?;
+            write_column(table, n, VARIABLE, variable.value);
+            Ok(Own::Read {
+                kind,
+                within,
+                next: variable.next,
+                nodes,
+            })
         }
     }
 }

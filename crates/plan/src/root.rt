@@ -11,61 +11,44 @@ use super::agree::first_differing;
 use super::fields::{field_at, number_at};
 use super::table::Table;
 use super::tree::activities_at;
-use super::{Accepted, Answer, Field, Out, Refusal};
+use super::{Accepted, Answer, Refusal};
+use numbers::Number;
 
 // The version, which is 1.
-fn version_at(s: &[u8]) -> Field
+fn version_at(s: &[u8]) -> Result<Number, Refusal>
     ensures is { result ≡ field_of (version_in s.now) }
     ensures fits { NumberFits s.now 0 result }
 {
-    let read = number_at(s, 0);
-    match read {
-        Field::Refused {
-            number: _,
-            place: _,
-        } => read,
-        Field::Got { value, next: _ } => {
-            if value == 1 {
-                return read;
-            }
-            Field::Refused {
-                number: 4,
-                place: 0,
-            }
-        }
+    let read = number_at(s, 0)?;
+    if read.value == 1 {
+        return Ok(read);
     }
+    Err(Refusal {
+        number: 4,
+        place: 0,
+    })
 }
 
 // `count` correlation variables from `at` on, flagged; the next place.
-fn correlation_at(s: &[u8], at: usize, count: u32, vars: u32, flags: &mut [u8; 16]) -> Field
+fn correlation_at(
+    s: &[u8],
+    at: usize,
+    count: u32,
+    vars: u32,
+    flags: &mut [u8; 16],
+) -> Result<usize, Refusal>
     requires { (vars ≤ 16) × (flags.old ≡ blank_flags) }
-    ensures { CorrelationRead (correlation_in vars s.now count 0 [] at) count result flags.new }
+    ensures { CorrelationRead (correlation_in vars s.now count 0 [] at) result flags.new }
 {
-    let mut left = count;
     let mut least: u32 = 0;
-    let mut p = at;
-    while left > 0 {
-        let f = field_at(s, p, least, vars);
-        match f {
-            Field::Refused {
-                number: _,
-                place: _,
-            } => {
-                return f;
-            }
-            Field::Got { value, next } => {
-                let v = value as usize;
-                flags[v] = 1;
-                least = value + 1;
-                p = next;
-                left -= 1;
-            }
-        }
+    let mut next = at;
+    for _ in 0..count {
+        let f = field_at(s, next, least, vars)?;
+        flags[f.value as usize] = 1;
+        least = f.value + 1;
+        next = f.next;
     }
-    Field::Got {
-        value: count,
-        next: p,
-    }
+    Ok(next)
 }
 
 // The root's body and the root's fault part.
@@ -73,35 +56,24 @@ fn root_at(s: &[u8], at: usize, vars: u32, flags: &[u8; 16], table: &mut Table) 
     requires { Base s.now vars 0 at }
     ensures { RootRead (root_in vars (chosen 0 flags.now) s.now at) at result table.old table.new }
 {
-    let parts = activities_at(s, at, false, false, true, 2, 16, vars, flags, 0, 0, table);
-    match parts {
-        Out::Refused { number, place } => Err(Refusal { number, place }),
-        Out::Read {
-            next,
-            count,
-            nodes,
-            first,
-            every: _,
-        } => {
-            if next < s.len() {
-                return Err(Refusal {
-                    number: 9,
-                    place: next,
-                });
-            }
-            if first {
-                return Ok(Accepted {
-                    variables: vars,
-                    activities: count,
-                    nodes,
-                });
-            }
-            Err(Refusal {
-                number: 7,
-                place: at,
-            })
-        }
+    let parts = activities_at(s, at, false, false, true, 2, 16, vars, flags, 0, 0, table)?;
+    if parts.next < s.len() {
+        return Err(Refusal {
+            number: 9,
+            place: parts.next,
+        });
     }
+    if parts.first {
+        return Ok(Accepted {
+            variables: vars,
+            activities: parts.count,
+            nodes: parts.nodes,
+        });
+    }
+    Err(Refusal {
+        number: 7,
+        place: at,
+    })
 }
 
 // The correlation variables and what follows them.
@@ -109,20 +81,9 @@ fn flagged_at(s: &[u8], at: usize, vars: u32, table: &mut Table, flags: &mut [u8
     requires { Base s.now vars 0 at × (flags.old ≡ blank_flags) }
     ensures { FlaggedRead (flagged_in vars s.now at) at result table.old table.new flags.new }
 {
-    let c = field_at(s, at, 0, vars + 1);
-    match c {
-        Field::Refused { number, place } => Err(Refusal { number, place }),
-        Field::Got { value: count, next } => {
-            let f = correlation_at(s, next, count, vars, flags);
-            match f {
-                Field::Refused { number, place } => Err(Refusal { number, place }),
-                Field::Got {
-                    value: _,
-                    next: body,
-                } => root_at(s, body, vars, flags, table),
-            }
-        }
-    }
+    let count = field_at(s, at, 0, vars + 1)?;
+    let body = correlation_at(s, count.next, count.value, vars, flags)?;
+    root_at(s, body, vars, flags, table)
 }
 
 // The whole plan, whether or not its receives agree, over what the table held and into flags that are blank.
@@ -136,20 +97,9 @@ fn plan_at(s: &[u8], table: &mut Table, flags: &mut [u8; 16]) -> Answer
             place: 0,
         });
     }
-    let version = version_at(s);
-    match version {
-        Field::Refused { number, place } => Err(Refusal { number, place }),
-        Field::Got { value: _, next } => {
-            let v = field_at(s, next, 1, 17);
-            match v {
-                Field::Refused { number, place } => Err(Refusal { number, place }),
-                Field::Got {
-                    value: vars,
-                    next: after,
-                } => flagged_at(s, after, vars, table, flags),
-            }
-        }
-    }
+    let version = version_at(s)?;
+    let vars = field_at(s, version.next, 1, 17)?;
+    flagged_at(s, vars.next, vars.value, table, flags)
 }
 
 // The whole plan, whose receives agree.

@@ -61,12 +61,7 @@ pub const VALUES: usize = NODES + 1;
 fn receives(kind: u32) -> bool
     ensures { result ≡ (eqb kind 2 || (eqb kind 18 || eqb kind 255)) }
 {
-    match kind {
-        kind::RECEIVE => true,
-        kind::ASKING_RECEIVE => true,
-        kind::ARM => true,
-        _ => false,
-    }
+    matches!(kind, kind::RECEIVE | kind::ASKING_RECEIVE | kind::ARM)
 }
 
 // Flags the partner of a receive or an arm; what stands in a raise's row in its place is below 256, and no partner.
@@ -75,8 +70,7 @@ fn note(table: &mut Table, kind: u32, partner: u32)
     ensures { table.new ≡ noted kind partner table.old }
 {
     if receives(kind) {
-        let p = partner as usize;
-        table[PARTNERS + p] = 1;
+        table[PARTNERS + partner as usize] = 1;
     }
 }
 

@@ -12,23 +12,20 @@ use super::kinds::is_scope;
 use super::named::{fault_number_at, with_number};
 use super::owns::own_at;
 use super::table::{Table, close_row, write_numbers};
-use super::{Field, Out, Own, kind};
+use super::{Out, Own, Refusal, kind};
 
 // The levels left for what stands within: an arm adds no depth.
 fn levels_below(arm: bool, depth: usize) -> usize
     ensures { result ≡ levels_below arm depth }
 {
-    if arm {
-        return depth;
-    }
-    if depth == 0 { 0 } else { depth - 1 }
+    if arm { depth } else { depth.saturating_sub(1) }
 }
 
 // Whether those after the first within stand in a fault part or an undo part.
 fn later_of(kind: u32, handler: bool) -> bool
     ensures { result ≡ (is_scope_code kind || handler) }
 {
-    if is_scope(kind) { true } else { handler }
+    is_scope(kind) || handler
 }
 
 // Whether an activity of this kind is a start form.
@@ -36,22 +33,11 @@ fn starts_of(kind: u32, first: bool, every: bool) -> bool
     ensures { result ≡ starts kind first every }
 {
     match kind {
-        kind::RECEIVE => true,
-        kind::ASKING_RECEIVE => true,
-        kind::SEQUENCE => first,
+        kind::RECEIVE | kind::ASKING_RECEIVE | kind::PICK => true,
+        kind::SEQUENCE | kind::SCOPE | kind::OPEN_SCOPE | kind::NUMBERED_SCOPE => first,
         kind::FLOW => every,
-        kind::PICK => true,
-        kind::SCOPE => first,
-        kind::OPEN_SCOPE => first,
-        kind::NUMBERED_SCOPE => first,
         _ => false,
     }
-}
-
-fn both(a: bool, b: bool) -> bool
-    ensures { result ≡ (a && b) }
-{
-    if a { b } else { false }
 }
 
 // The activity, or the arm, with the number n at `at`; m is the number of the next expression node.
@@ -67,15 +53,13 @@ fn activity_at(
     n: usize,
     m: usize,
     table: &mut Table,
-) -> Out
+) -> Result<Out, Refusal>
     requires { Base s.now vars m at }
     ensures { ActRead (node_in arm depth vars (chosen 0 correlation.now) s.now handler n at) at n m result table.old table.new }
 {
-    let own = own_at(s, at, arm, handler, depth, vars, correlation, n, m, table);
-    match own {
-        Own::Refused { number, place } => Out::Refused { number, place },
+    let below = levels_below(arm, depth);
+    match own_at(s, at, arm, handler, depth, vars, correlation, n, m, table)? {
         Own::Numbered { body } => {
-            let below = levels_below(arm, depth);
             numbered_scope_at(s, body, at, handler, below, vars, correlation, n, m, table)
         }
         Own::Read {
@@ -84,14 +68,12 @@ fn activity_at(
             next,
             nodes,
         } => {
-            let later = later_of(kind, handler);
-            let below = levels_below(arm, depth);
             let all = activities_at(
                 s,
                 next,
                 kind == kind::PICK,
                 handler,
-                later,
+                later_of(kind, handler),
                 within,
                 below,
                 vars,
@@ -99,30 +81,14 @@ fn activity_at(
                 n + 1,
                 nodes,
                 table,
-            );
-            match all {
-                Out::Refused {
-                    number: _,
-                    place: _,
-                } => all,
-                Out::Read {
-                    next: stop,
-                    count: end,
-                    nodes: last,
-                    first,
-                    every,
-                } => {
-                    close_row(table, n, end, stop);
-                    let start = starts_of(kind, first, every);
-                    Out::Read {
-                        next: stop,
-                        count: end,
-                        nodes: last,
-                        first: start,
-                        every: start,
-                    }
-                }
-            }
+            )?;
+            close_row(table, n, all.count, all.next);
+            let start = starts_of(kind, all.first, all.every);
+            Ok(Out {
+                first: start,
+                every: start,
+                ..all
+            })
         }
     }
 }
@@ -142,67 +108,39 @@ pub(crate) fn activities_at(
     n: usize,
     m: usize,
     table: &mut Table,
-) -> Out
+) -> Result<Out, Refusal>
     requires { Base s.now vars m at × ((n ≤ 256) × (left ≤ 32)) }
     ensures { ActsRead (many_in (node_in arms depth vars (chosen 0 correlation.now) s.now) handler later left n at) at n m result table.old table.new }
 {
     if left == 0 {
-        return Out::Read {
+        return Ok(Out {
             next: at,
             count: n,
             nodes: m,
             first: false,
             every: true,
-        };
+        });
     }
-    let one = activity_at(s, at, arms, handler, depth, vars, correlation, n, m, table);
-    match one {
-        Out::Refused {
-            number: _,
-            place: _,
-        } => one,
-        Out::Read {
-            next,
-            count,
-            nodes,
-            first,
-            every: _,
-        } => {
-            let rest = activities_at(
-                s,
-                next,
-                arms,
-                later,
-                later,
-                left - 1,
-                depth,
-                vars,
-                correlation,
-                count,
-                nodes,
-                table,
-            );
-            match rest {
-                Out::Refused {
-                    number: _,
-                    place: _,
-                } => rest,
-                Out::Read {
-                    next: stop,
-                    count: end,
-                    nodes: last,
-                    first: _,
-                    every,
-                } => Out::Read {
-                    next: stop,
-                    count: end,
-                    nodes: last,
-                    first,
-                    every: both(first, every),
-                },
-            }
-        }
-    }
+    let one = activity_at(s, at, arms, handler, depth, vars, correlation, n, m, table)?;
+    let rest = activities_at(
+        s,
+        one.next,
+        arms,
+        later,
+        later,
+        left - 1,
+        depth,
+        vars,
+        correlation,
+        one.count,
+        one.nodes,
+        table,
+    )?;
+    Ok(Out {
+        first: one.first,
+        every: one.first && rest.every,
+        ..rest
+    })
 }
 
 // A scope with fault parts by number, from its body on; its code stands at `place`.
@@ -218,7 +156,7 @@ fn numbered_scope_at(
     n: usize,
     m: usize,
     table: &mut Table,
-) -> Out
+) -> Result<Out, Refusal>
     requires { ScopeRoom s.now vars m place at × (n < 256) }
     ensures { ActRead (numbered_scope_in (node_in false depth vars (chosen 0 correlation.now) s.now) s.now handler n at) place n m result table.old table.new }
 {
@@ -233,67 +171,29 @@ fn numbered_scope_at(
         n + 1,
         m,
         table,
-    );
-    match body {
-        Out::Refused {
-            number: _,
-            place: _,
-        } => body,
-        Out::Read {
-            next,
-            count,
-            nodes,
-            first,
-            every: _,
-        } => {
-            let f = field_at(s, next, 1, 9);
-            match f {
-                Field::Refused { number, place } => Out::Refused { number, place },
-                Field::Got {
-                    value: many,
-                    next: parts,
-                } => {
-                    let rest = numbered_at(
-                        s,
-                        parts,
-                        many,
-                        [0u32; 8],
-                        0,
-                        depth,
-                        vars,
-                        correlation,
-                        count,
-                        nodes,
-                        n,
-                        place,
-                        table,
-                    );
-                    match rest {
-                        Out::Refused {
-                            number: _,
-                            place: _,
-                        } => rest,
-                        Out::Read {
-                            next: stop,
-                            count: end,
-                            nodes: last,
-                            first: _,
-                            every: _,
-                        } => {
-                            close_row(table, n, end, stop);
-                            Out::Read {
-                                next: stop,
-                                count: end,
-                                nodes: last,
-                                first,
-                                every: first,
-                            }
-                        }
-                    }
-                }
-            }
-        }
-    }
+    )?;
+    let many = field_at(s, body.next, 1, 9)?;
+    let rest = numbered_at(
+        s,
+        many.next,
+        many.value,
+        [0u32; 8],
+        0,
+        depth,
+        vars,
+        correlation,
+        body.count,
+        body.nodes,
+        n,
+        place,
+        table,
+    )?;
+    close_row(table, n, rest.count, rest.next);
+    Ok(Out {
+        first: body.first,
+        every: body.first,
+        ..rest
+    })
 }
 
 // `left` fault parts by number, each behind its number, and the two parts that follow them: those of the scope with the number `row`, whose code stands at
@@ -313,7 +213,7 @@ fn numbered_at(
     row: usize,
     place: usize,
     table: &mut Table,
-) -> Out
+) -> Result<Out, Refusal>
     requires { NumbersRoom s.now vars n m row place at × (k + left ≤ 8) }
     ensures { NumberedRead (numbered_in (node_in false depth vars (chosen 0 correlation.now) s.now) s.now left (backwards k numbers) n at) numbers k row place at n m result table.old table.new }
 {
@@ -334,38 +234,32 @@ fn numbered_at(
             table,
         );
     }
-    let f = fault_number_at(s, at, numbers, k);
-    match f {
-        Field::Refused { number, place } => Out::Refused { number, place },
-        Field::Got { value, next } => {
-            let part = activity_at(s, next, false, true, depth, vars, correlation, n, m, table);
-            match part {
-                Out::Refused {
-                    number: _,
-                    place: _,
-                } => part,
-                Out::Read {
-                    next: after,
-                    count,
-                    nodes,
-                    first: _,
-                    every: _,
-                } => numbered_at(
-                    s,
-                    after,
-                    left - 1,
-                    with_number(numbers, k, value),
-                    k + 1,
-                    depth,
-                    vars,
-                    correlation,
-                    count,
-                    nodes,
-                    row,
-                    place,
-                    table,
-                ),
-            }
-        }
-    }
+    let number = fault_number_at(s, at, numbers, k)?;
+    let part = activity_at(
+        s,
+        number.next,
+        false,
+        true,
+        depth,
+        vars,
+        correlation,
+        n,
+        m,
+        table,
+    )?;
+    numbered_at(
+        s,
+        part.next,
+        left - 1,
+        with_number(numbers, k, number.value),
+        k + 1,
+        depth,
+        vars,
+        correlation,
+        part.count,
+        part.nodes,
+        row,
+        place,
+        table,
+    )
 }

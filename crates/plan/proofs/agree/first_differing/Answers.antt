@@ -1,6 +1,5 @@
 -- `plan::agree::first_differing` meets its contract. The loop's invariant: what the rows left make of what was heard is what all rows make.
 -- Assumes nothing.
-use Prim.Native.Nat.{◌-◌}
 use Rattle.plan.proofs.HearReturns.{hearing-starts, hearing-again, hearing-done}
 use Rattle.plan.proofs.agree.first_differing.Goals as goal
 

@@ -1,33 +1,27 @@
--- `plan::fields::variables_at` meets its contract. The loop's invariant: what is to be read is what the variables left make of those that were
--- read, which are stored and flagged. Assumes nothing.
-use Prim.Native.Nat.{◌-◌}
-use Rattle.plan.proofs.TupleReads.{reading-starts, reading-done, reading-refused, variable-below, variable-fits, reading-barred, reading-again}
+-- `plan::fields::variables_at` meets its contract. Assumes nothing.
+use Rattle.plan.proofs.TupleReads.{reading-starts, reading-done, reading-refused, reading-barred, reading-again}
+use Rattle.plan.proofs.OneNumber.{returned}
+use mathlib.Core.Logic.{inl, inr}
+use mathlib.Core.Path.{sym, ◌∙◌}
+use Rattle.plan.proofs.fields.variables_at.Goals.{else-once-via-then-once+else-contains, else-once-via-else-once}
 use Rattle.plan.proofs.fields.variables_at.Goals as goal
 
 ruleset cases = (reading-starts, reading-refused, reading-barred, reading-again, reading-done)
 
-ruleset room = (variable-below, variable-fits)
-
 pub loop-i-init : goal.loop-i-init
 loop-i-init c = search cases
 
-pub returns-in-Refused : goal.returns-in-Refused
-returns-in-Refused c = search cases
+pub returns-in_err-f : goal.returns-in_err-f
+returns-in_err-f c = rw (returned c.from_residual.ensures.1) (search (cases, c.in_err-f.was))
 
-pub overflow_cast-v : goal.overflow_cast-v
-overflow_cast-v c = search room
-
-pub bounds-seen-v : goal.bounds-seen-v
-bounds-seen-v c = search room
-
-pub returns-then-barred : goal.returns-then-barred
-returns-then-barred c = search cases
-
-pub bounds-seen-v-in-Got : goal.bounds-seen-v-in-Got
-bounds-seen-v-in-Got c = search room
+pub returns-then-contains : goal.returns-then-contains
+returns-then-contains c = reading-barred c.loop-i.invariant c.field_at.ensures.is c.loop-i-test.true c.in_ok-f.was c.requires.0 c.if-once.true (sym c.contains.ensures.value ∙ c.if-contains.true)
 
 pub loop-i-preserved : goal.loop-i-preserved
-loop-i-preserved c = search cases
+loop-i-preserved c = reading-again c.loop-i.invariant c.field_at.ensures.is c.loop-i-test.true c.in_ok-f.was c.requires.0 (elim c.else-once.branch [
+  | else-once-via-then-once+else-contains w ↦ inr (w.if-once.true, sym w.contains.ensures.value ∙ w.if-contains.false)
+  | else-once-via-else-once w ↦ inl w.if-once.false
+])
 
 pub returns : goal.returns
 returns c = search cases

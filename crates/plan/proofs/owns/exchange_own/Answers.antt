@@ -1,14 +1,15 @@
 -- `plan::owns::exchange_own` meets its contract. Assumes nothing.
 use Rattle.plan.proofs.OwnReads.{exchange-no-operation, exchange-no-tuple, exchange-read}
+use Rattle.plan.proofs.OneNumber.{returned}
 use Rattle.plan.proofs.owns.exchange_own.Goals as goal
 
 ruleset cases = (exchange-no-operation, exchange-no-tuple, exchange-read)
 
-pub returns-in-Refused : goal.returns-in-Refused
-returns-in-Refused c = search cases
+pub returns-in_err-operation : goal.returns-in_err-operation
+returns-in_err-operation c = rw (returned c.from_residual.ensures.1) (search (cases, c.in_err-operation.was))
 
-pub returns-in-Refused-out : goal.returns-in-Refused-out
-returns-in-Refused-out c = search cases
+pub returns-in_err-t : goal.returns-in_err-t
+returns-in_err-t c = rw (returned c.from_residual-in_err-t.ensures.1) (search (cases, c.in_err-t.was, c.in_ok-operation.was))
 
-pub returns-in-Got-out : goal.returns-in-Got-out
-returns-in-Got-out c = search cases
+pub returns : goal.returns
+returns c = search (cases, c.in_ok-operation.was, c.in_ok-t.was)

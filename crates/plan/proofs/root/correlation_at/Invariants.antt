@@ -3,8 +3,5 @@
 use Rattle.plan.proofs.HeadReads.{Correlating}
 use Rattle.plan.proofs.root.correlation_at.Given as goal
 
-abbrev pub invariant-loop-left : goal.invariant-loop-left
-invariant-loop-left l = Correlating l.s l.at l.count l.vars l.flags l.left l.least l.p
-
-abbrev pub decreases-loop-left : goal.decreases-loop-left
-decreases-loop-left l = l.left
+abbrev pub invariant-loop : goal.invariant-loop
+invariant-loop l = Correlating l.s l.at l.count l.vars l.flags l.counter l.least l.next

@@ -1,17 +1,18 @@
 -- `plan::root::root_at` meets its contract. Assumes nothing.
 use Rattle.plan.proofs.RootReads.{root-no-parts, root-after, root-no-start, root-accepted}
+use Rattle.plan.proofs.OneNumber.{returned}
 use Rattle.plan.proofs.root.root_at.Goals as goal
 
 ruleset cases = (root-no-parts, root-after, root-no-start, root-accepted)
 
-pub returns-then-next-s : goal.returns-then-next-s
-returns-then-next-s c = search cases
+pub returns-then-parts-s : goal.returns-then-parts-s
+returns-then-parts-s c = search (cases, c.in_ok-parts.was)
 
-pub returns-then-first : goal.returns-then-first
-returns-then-first c = search cases
+pub returns-then-parts : goal.returns-then-parts
+returns-then-parts c = search (cases, c.in_ok-parts.was)
 
-pub returns-in-Refused : goal.returns-in-Refused
-returns-in-Refused c = search cases
+pub returns-in_err-parts : goal.returns-in_err-parts
+returns-in_err-parts c = rw (returned c.from_residual.ensures.1) (search (cases, c.in_err-parts.was))
 
-pub returns-else-first : goal.returns-else-first
-returns-else-first c = search cases
+pub returns : goal.returns
+returns c = search (cases, c.in_ok-parts.was)
