@@ -3,7 +3,6 @@
 #![tactic(auto)]
 
 use plan::table::{LENGTH, Table};
-use sheet::Sheet;
 use writer::Answer;
 
 fn wide(x: u32) -> u64 {
@@ -53,14 +52,9 @@ fn number_of(a: Answer, lines: &[u32; 4355]) -> u64 {
 pub fn moonhalyard_text(text: &[u8], plan: &mut [u8]) -> u64 {
     let mut rows = [0u32; 87100];
     let mut lines = [0u32; 4355];
-    let r = sheet::read(text, &mut rows, &mut lines);
-    match r {
-        Sheet::Rows { length } => written(&rows, length, &lines, plan),
-        Sheet::Wrong {
-            line,
-            reason,
-            place: _,
-        } => pair_of((reason as u64) % 4096 + 32, line as u64),
+    match sheet::read(text, &mut rows, &mut lines) {
+        Ok(length) => written(&rows, length, &lines, plan),
+        Err(wrong) => pair_of(u64::from(wrong.reason.number()) + 32, wide(wrong.line)),
     }
 }
 

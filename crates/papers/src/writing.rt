@@ -9,7 +9,6 @@ use super::rules::put_rule;
 use super::{Desk, failed, refused, shown};
 use drawing::{Out, put, put_byte, put_hex, put_next, put_pair, unended};
 use machine::State;
-use sheet::Sheet;
 use writer::Answer;
 
 // Whether the first bytes are this plan.
@@ -262,23 +261,18 @@ pub fn write(
 ) -> Desk {
     let mut rows = [0u32; 87100];
     let mut lines = [0u32; 4355];
-    let r = sheet::read(text, &mut rows, &mut lines);
-    match r {
-        Sheet::Rows { length } => write_rows(
+    match sheet::read(text, &mut rows, &mut lines) {
+        Ok(length) => write_rows(
             desk, text, number, &rows, length, &lines, bytes, names, out,
         ),
-        Sheet::Wrong {
-            line,
-            reason,
-            place,
-        } => {
+        Err(wrong) => {
             let used = put_wrong(
                 out,
                 desk.used,
-                line_after(number, line as u64),
-                reason,
+                line_after(number, wide(wrong.line)),
+                usize::from(wrong.reason.number()),
                 text,
-                place,
+                wrong.place,
                 desk.spoken,
             );
             failed(desk, used)
