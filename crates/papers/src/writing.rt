@@ -262,9 +262,7 @@ pub fn write(
     let mut rows = [0u32; 87100];
     let mut lines = [0u32; 4355];
     match sheet::read(text, &mut rows, &mut lines) {
-        Ok(length) => write_rows(
-            desk, text, number, &rows, length, &lines, bytes, names, out,
-        ),
+        Ok(length) => write_rows(desk, text, number, &rows, length, &lines, bytes, names, out),
         Err(wrong) => {
             let used = put_wrong(
                 out,

@@ -113,10 +113,9 @@ impl<'a> Reading<'a> {
 
     // The activities that a line does not stand in are closed.
     fn close(&mut self, column: usize) -> Result<(), Wrong> {
-        match self.levels.close(column) {
-            Ok(()) => Ok(()),
-            Err(row) => Err(self.missing(self.table.line_of(row))),
-        }
+        self.levels
+            .close(column)
+            .map_err(|row| self.missing(self.table.line_of(row)))
     }
 
     // An activity, after the name of its part.
@@ -127,10 +126,9 @@ impl<'a> Reading<'a> {
         }
         let own = self.activity(at)?;
         self.row = own.next;
-        match self.levels.open(column, own.kind, row, &mut self.table) {
-            Ok(()) => Ok(()),
-            Err(reason) => Err(reason.at(at)),
-        }
+        self.levels
+            .open(column, own.kind, row, &mut self.table)
+            .map_err(|reason| reason.at(at))
     }
 
     // The row of the count of fault parts by number, before the first of them.
@@ -181,10 +179,8 @@ impl<'a> Reading<'a> {
     // A line of the drawing, whose activity or part starts at `at`.
     fn draw(&mut self, at: usize, column: usize) -> Result<(), Wrong> {
         self.close(column)?;
-        match self.put_part(at, column) {
-            Ok(()) => Ok(()),
-            Err(mistake) => Err(self.wrong(mistake)),
-        }
+        self.put_part(at, column)
+            .map_err(|mistake| self.wrong(mistake))
     }
 
     // A line, which starts at `at`.
@@ -198,10 +194,9 @@ impl<'a> Reading<'a> {
             return Ok(());
         }
         if let Some(declaration) = Declaration::of(s, at) {
-            return match self.declare(at, declaration) {
-                Ok(()) => Ok(()),
-                Err(mistake) => Err(self.wrong(mistake)),
-            };
+            return self
+                .declare(at, declaration)
+                .map_err(|mistake| self.wrong(mistake));
         }
         self.start(at);
         let p = past_number(s, at);

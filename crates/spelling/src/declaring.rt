@@ -18,12 +18,12 @@ pub enum What {
     Fault,
 }
 
-// A line that declares, by its two words behind the first; either may be empty.
+// A line that declares: its name, and the word that says the number of a partner, an operation or a fault, or of a constant; either may be empty.
 #[derive(Clone, Copy)]
 pub struct Declaration {
     pub what: What,
-    first: Span,
-    second: Span,
+    name: Span,
+    number: Span,
 }
 
 // Whether the place is behind the `fault` of a declaration: before a word, which is no part's name.
@@ -57,11 +57,11 @@ impl Declaration {
         let (what, p) = what_at(s, at)?;
         let first = word_at(s, p);
         let second = word_at(s, first.to);
-        Some(Declaration {
-            what,
-            first,
-            second,
-        })
+        let (name, number) = match what {
+            What::Variable | What::Constant => (first, second),
+            _ => (second, first),
+        };
+        Some(Declaration { what, name, number })
     }
 
     // What it declares, where that is of this kind.
@@ -69,39 +69,17 @@ impl Declaration {
         Declaration::of(s, at).filter(|d| d.what == what)
     }
 
-    // Whether the name of what is declared stands before its number.
-    fn is_name_first(self) -> bool {
-        matches!(self.what, What::Variable | What::Constant)
-    }
-
-    // The name of what is declared.
-    fn name(self) -> Span {
-        if self.is_name_first() {
-            self.first
-        } else {
-            self.second
-        }
-    }
-
-    // The word that says the number of a partner, an operation or a fault, or of a constant.
-    fn number_word(self) -> Span {
-        if self.is_name_first() {
-            self.second
-        } else {
-            self.first
-        }
-    }
-
-    fn number(self, s: &[u8]) -> Option<u32> {
-        decimal(self.number_word().of(s))
+    // The number that it says.
+    fn value(self, s: &[u8]) -> Option<u32> {
+        decimal(self.number.of(s))
     }
 
     // The place behind the name, and behind a constant's number, where it is there.
     fn end(self) -> usize {
-        if self.what == What::Constant && !self.second.is_empty() {
-            self.second.to
+        if self.what == What::Constant && !self.number.is_empty() {
+            self.number.to
         } else {
-            self.name().to
+            self.name.to
         }
     }
 
@@ -109,28 +87,28 @@ impl Declaration {
     fn is_ended(self, s: &[u8]) -> bool {
         match self.what {
             What::Variable => {
-                let name = self.name().to;
-                is_over(s, after_correlation(s, name).unwrap_or(name))
+                let end = self.name.to;
+                is_over(s, after_correlation(s, end).unwrap_or(end))
             }
-            What::Constant => !self.second.is_empty() && is_over(s, self.second.to),
-            _ => is_over(s, self.name().to),
+            What::Constant => !self.number.is_empty() && is_over(s, self.number.to),
+            _ => is_over(s, self.name.to),
         }
     }
 
     // That it is not as a declaration has it: at its name, or else at what stands behind that.
     fn odd(self, s: &[u8]) -> Mistake {
-        let name = self.name().from;
-        Reason::Declaration.at(if is_name(s, name) { self.end() } else { name })
+        let from = self.name.from;
+        Reason::Declaration.at(if is_name(s, from) { self.end() } else { from })
     }
 
-    // What is wrong with its name, as such.
+    // Whether its words are as a declaration has them.
     fn spelt(self, s: &[u8]) -> Result<(), Mistake> {
-        let name = self.name();
-        if !is_name(s, name.from) {
+        let from = self.name.from;
+        if !is_name(s, from) {
             return Err(self.odd(s));
         }
-        if is_long(name) {
-            return Err(Reason::Long.at(name.from));
+        if is_long(self.name) {
+            return Err(Reason::Long.at(from));
         }
         if self.is_ended(s) {
             Ok(())
@@ -139,19 +117,15 @@ impl Declaration {
         }
     }
 
-    // What is wrong with the number of a partner, an operation or a fault by its size.
-    fn outside(self, s: &[u8]) -> Option<Reason> {
-        let number = self.number(s);
-        match self.what {
-            What::Fault => match number {
-                Some(16..=255) => None,
-                _ => Some(Reason::Fault),
-            },
-            _ => match number {
-                Some(0..=63) => None,
-                _ => Some(Reason::Above),
-            },
-        }
+    // The number of a partner, an operation or a fault, within its limits.
+    fn limited(self, s: &[u8]) -> Result<u32, Mistake> {
+        let (least, most, reason) = match self.what {
+            What::Fault => (16, 255, Reason::Fault),
+            _ => (0, 63, Reason::Above),
+        };
+        self.value(s)
+            .filter(|n| least <= *n && *n <= most)
+            .ok_or(reason.at(self.number.from))
     }
 }
 
@@ -171,22 +145,16 @@ impl<'a> Text<'a> {
     pub fn declared(self, what: What, word: Span) -> Option<u32> {
         let s = self.bytes;
         let name = word.of(s);
-        let mut many: u32 = 0;
-        for at in self.lines() {
-            if let Some(d) = Declaration::of_kind(s, at, what)
-                && !d.name().is_empty()
-            {
-                if d.name().of(s) == name {
-                    return if what == What::Variable {
-                        Some(many)
-                    } else {
-                        d.number(s)
-                    };
-                }
-                many = many.saturating_add(1);
-            }
+        let mut named = self
+            .lines()
+            .filter_map(|at| Declaration::of_kind(s, at, what))
+            .filter(|d| !d.name.is_empty());
+        if what == What::Variable {
+            let k = named.position(|d| d.name.of(s) == name)?;
+            u32::try_from(k).ok()
+        } else {
+            named.find(|d| d.name.of(s) == name)?.value(s)
         }
-        None
     }
 
     // The declaration of variable k.
@@ -199,7 +167,7 @@ impl<'a> Text<'a> {
     // Whether variable k is for correlation.
     pub fn is_correlation(self, k: u32) -> bool {
         self.variable_of(k)
-            .is_some_and(|d| after_correlation(self.bytes, d.name().to).is_some())
+            .is_some_and(|d| after_correlation(self.bytes, d.name.to).is_some())
     }
 
     // The name of a variable, a partner, an operation or a fault by its number.
@@ -210,9 +178,9 @@ impl<'a> Text<'a> {
         } else {
             self.lines()
                 .filter_map(|at| Declaration::of_kind(s, at, what))
-                .find(|d| d.number(s) == Some(number))
+                .find(|d| d.value(s) == Some(number))
         };
-        d.map(|d| d.name()).filter(|name| !name.is_empty())
+        d.map(|d| d.name).filter(|name| !name.is_empty())
     }
 
     // The number of the variable that a word names: by its declared name, or as v0, v1, ..
@@ -234,65 +202,50 @@ impl<'a> Text<'a> {
         }
     }
 
-    // What is wrong with a declaration in the line at `stop`, before which `count` variables are declared.
+    // Whether a declaration may stand in the line at `stop`, before which `count` variables are declared.
     pub fn declares(self, d: Declaration, count: u32) -> Result<(), Mistake> {
         d.spelt(self.bytes)?;
-        let name = d.name();
-        if self.declared(d.what, name).is_some() {
-            return Err(Reason::Declared.at(name.from));
+        if self.declared(d.what, d.name).is_some() {
+            return Err(Reason::Declared.at(d.name.from));
         }
         match d.what {
-            What::Variable | What::Constant => self.declares_operand(d, count),
+            What::Variable => self.declares_operand(d, What::Constant, Some(count)),
+            What::Constant => self.declares_operand(d, What::Variable, None),
             _ => self.declares_number(d),
         }
     }
 
-    // Variables and constants stand in expressions, so no two of them have one name.
-    fn declares_operand(self, d: Declaration, count: u32) -> Result<(), Mistake> {
-        let name = d.name();
-        let word = name.of(self.bytes);
-        let other = if d.what == What::Variable {
-            What::Constant
-        } else {
-            What::Variable
-        };
+    // Variables and constants stand in expressions, so no two of them have one name; `own` is the number of a variable.
+    fn declares_operand(
+        self,
+        d: Declaration,
+        other: What,
+        own: Option<u32>,
+    ) -> Result<(), Mistake> {
+        let s = self.bytes;
+        let word = d.name.of(s);
         if is_reserved(word) {
-            return Err(Reason::Reserved.at(name.from));
-        }
-        if self.declared(other, name).is_some() {
-            return Err(Reason::Declared.at(name.from));
+            return Err(Reason::Reserved.at(d.name.from));
         }
         let plain = plain_variable(word);
-        if d.what == What::Constant {
-            return if plain.is_some() {
-                Err(Reason::Declared.at(name.from))
-            } else if d.number(self.bytes).is_none() {
-                Err(Reason::Number.at(d.number_word().from))
-            } else {
-                Ok(())
-            };
+        if self.declared(other, d.name).is_some() || plain.is_some() && plain != own {
+            return Err(Reason::Declared.at(d.name.from));
         }
-        if plain.is_some_and(|k| k != count) {
-            return Err(Reason::Declared.at(name.from));
-        }
-        if count < 16 {
-            Ok(())
-        } else {
-            Err(Reason::Variables.at(name.from))
+        match own {
+            Some(count) if count < 16 => Ok(()),
+            Some(_) => Err(Reason::Variables.at(d.name.from)),
+            None if d.value(s).is_some() => Ok(()),
+            None => Err(Reason::Number.at(d.number.from)),
         }
     }
 
     // A number is within its limits, and has no name before.
     fn declares_number(self, d: Declaration) -> Result<(), Mistake> {
-        let at = d.number_word().from;
-        if let Some(reason) = d.outside(self.bytes) {
-            return Err(reason.at(at));
+        let number = d.limited(self.bytes)?;
+        match self.named(d.what, number) {
+            Some(_) => Err(Reason::Named.at(d.number.from)),
+            None => Ok(()),
         }
-        let number = d.number(self.bytes);
-        if number.is_some_and(|number| self.named(d.what, number).is_some()) {
-            return Err(Reason::Named.at(at));
-        }
-        Ok(())
     }
 }
 

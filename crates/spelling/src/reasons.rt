@@ -1,4 +1,4 @@
-// What may be wrong with a plan as text. The numbers are those that callers in other languages are told (docs/DESK.md).
+// What may be wrong with a plan as text. The numbers are those that callers in other languages are told (include/moonhalyard.h).
 #[derive(Clone, Copy, PartialEq, Eq, Debug)]
 pub enum Reason {
     // A declaration is a word, a number where it is a partner's, an operation's or a fault's, and a name; a constant's number stands behind its name.
