@@ -52,21 +52,27 @@ pub fn is_declaration(s: &[u8], at: usize) -> bool {
 }
 
 impl Declaration {
-    // What a line declares.
-    pub fn of(s: &[u8], at: usize) -> Option<Declaration> {
-        let (what, p) = what_at(s, at)?;
+    // What is declared by the words from p on, which stand behind the first.
+    fn behind(s: &[u8], p: usize, what: What) -> Declaration {
         let first = word_at(s, p);
         let second = word_at(s, first.to);
         let (name, number) = match what {
             What::Variable | What::Constant => (first, second),
             _ => (second, first),
         };
-        Some(Declaration { what, name, number })
+        Declaration { what, name, number }
+    }
+
+    // What a line declares.
+    pub fn of(s: &[u8], at: usize) -> Option<Declaration> {
+        let (what, p) = what_at(s, at)?;
+        Some(Declaration::behind(s, p, what))
     }
 
     // What it declares, where that is of this kind.
-    fn of_kind(s: &[u8], at: usize, what: What) -> Option<Declaration> {
-        Declaration::of(s, at).filter(|d| d.what == what)
+    fn of_kind(s: &[u8], at: usize, kind: What) -> Option<Declaration> {
+        let (what, p) = what_at(s, at)?;
+        (what == kind).then(|| Declaration::behind(s, p, what))
     }
 
     // The number that it says.
