@@ -126,6 +126,7 @@ impl Level {
 }
 
 // The open activities, of which `last` stand around the innermost.
+// Stays: (a) an array and how many of it are used: the crates that are installed for C have no heap.
 #[derive(Clone, Copy)]
 pub(crate) struct Levels {
     open: [Level; 64],

@@ -221,6 +221,7 @@ impl<'a> Reading<'a> {
 
 // How many numbers of `rows` the rows of a text use, 20 for each row, from the start on, and in `lines` the line that each of them is from. Where it is wrong,
 // what they hold is nobody's.
+// Stays: (a) two arrays beside each other: `read(text, rows, lines)` is named by docs/CONTRACTS.md, and its callers give a part of `rows` to the writer.
 pub fn read(s: &[u8], rows: &mut [u32; 87100], lines: &mut [u32; 4355]) -> Result<usize, Wrong> {
     let (rows, _) = rows.as_chunks_mut::<20>();
     let table = Table {

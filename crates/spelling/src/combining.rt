@@ -2,18 +2,7 @@
 // they can: `a > b` by `b < a`, `not E` by `E = 0`, `E and F` by `(E = 0) < F` and `E or F` by `0 < (E + F)`, where an operand that is no comparison, and so
 // may be above 1, is `0 < F` in its place.
 use super::operations::Operation;
-use super::table::Table;
-
-// The codes of the bytes.
-const CONSTANT: u32 = 0;
-
-const SUM: u32 = 2;
-
-const DIFFERENCE: u32 = 3;
-
-const EQUAL: u32 = 4;
-
-const LESS: u32 = 5;
+use super::table::{CONSTANT, DIFFERENCE, EQUAL, LESS, SUM, Table};
 
 // Where the rows of the left operand start, and those of the right one, and the row after them. A `not` has the right operand alone, which starts at `left`.
 #[derive(Clone, Copy)]

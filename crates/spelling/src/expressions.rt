@@ -9,7 +9,7 @@ use super::marks::{
 };
 use super::operations::{Operation, operation_at};
 use super::reasons::{Mistake, Reason};
-use super::table::Table;
+use super::table::{CONSTANT, Table, VARIABLE};
 
 // An operation that waits, and the row that its left operand starts at.
 #[derive(Clone, Copy)]
@@ -19,6 +19,7 @@ struct Waiting {
 }
 
 // The operations that wait, the outermost first.
+// Stays: (a) an array and how many of it are used: the crates that are installed for C have no heap.
 #[derive(Clone, Copy)]
 struct Stack {
     waiting: [Waiting; 64],
@@ -98,16 +99,16 @@ struct Reading<'t, 'r, 'a> {
 }
 
 impl Reading<'_, '_, '_> {
-    // The code and the value of a variable or a constant by its name. A code of 0 is a constant, 1 a variable.
+    // The code and the value of a variable or a constant by its name.
     fn named(&self, word: Span) -> Result<(u32, u32), Mistake> {
         if is_reserved(word.of(self.text.bytes)) {
             return Err(Reason::Expression.at(word.from));
         }
         if let Some(k) = self.text.variable(word) {
-            return Ok((1, k));
+            return Ok((VARIABLE, k));
         }
         match self.text.declared(What::Constant, word) {
-            Some(value) => Ok((0, value)),
+            Some(value) => Ok((CONSTANT, value)),
             None => Err(Reason::Name.at(word.from)),
         }
     }
@@ -122,7 +123,7 @@ impl Reading<'_, '_, '_> {
             return self.named(word);
         }
         match decimal(word.of(s)) {
-            Some(value) => Ok((0, value)),
+            Some(value) => Ok((CONSTANT, value)),
             None => Err(Reason::Number.at(word.from)),
         }
     }
@@ -245,6 +246,7 @@ pub fn expression(
     };
     let mut p = past_blanks(s, at);
     let mut wanted = true;
+    // Stays: (d) no `for` and no iterator: each turn says itself how far it has read.
     while p < s.len() {
         let next = if wanted { e.starts(p)? } else { e.follows(p)? };
         let (to, operand) = match next {

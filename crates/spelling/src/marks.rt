@@ -40,6 +40,7 @@ fn is_inner(b: u8) -> bool {
 }
 
 // The place or row after n.
+// Stays: (a) no library method ends at 4,294,967,295, and what a text gives is promised to stay, however long it is.
 pub fn more(n: usize) -> usize {
     if n < 4294967295 { n + 1 } else { n }
 }

@@ -34,6 +34,7 @@ fn drawing_of(s: &[u8]) -> usize {
 }
 
 // The table of the names that a text declares.
+// Stays: (a) one array of all places: `names_of(text, names)` is named by docs/CONTRACTS.md, and saved files hold these bytes.
 pub fn names_of(s: &[u8], names: &mut [u8; 16896]) {
     let stop = drawing_of(s);
     let text = Text { bytes: s, stop };

@@ -1,6 +1,19 @@
 // The table while it is filled.
 use super::marks::more;
 
+// The codes of an expression's rows.
+pub(crate) const CONSTANT: u32 = 0;
+
+pub(crate) const VARIABLE: u32 = 1;
+
+pub(crate) const SUM: u32 = 2;
+
+pub(crate) const DIFFERENCE: u32 = 3;
+
+pub(crate) const EQUAL: u32 = 4;
+
+pub(crate) const LESS: u32 = 5;
+
 // Its rows, the line of the text that each of them is from, and the line that those are from which begin now. The first number
 // of a row says how many of the 19 behind it are used.
 #[derive(Drop)]
@@ -51,7 +64,9 @@ impl Table<'_> {
 
     // Whether row r, of an expression, is a comparison.
     pub(crate) fn is_comparison(&self, r: usize) -> bool {
-        self.rows.get(r).is_some_and(|row| matches!(row[1], 4 | 5))
+        self.rows
+            .get(r)
+            .is_some_and(|row| matches!(row[1], EQUAL | LESS))
     }
 
     // A row of a code comes in at row s, before those of an expression that end before row r: the row after them.
