@@ -3,7 +3,6 @@
 #![tactic(auto)]
 
 use plan::table::{LENGTH, Table};
-use sheet::Sheet;
 use writer::Answer;
 
 // A number and a line.
@@ -40,8 +39,8 @@ pub fn moonhalyard_text(text: &[u8], plan: &mut [u8]) -> u64 {
     let mut rows = [0u32; 87100];
     let mut lines = [0u32; 4355];
     match sheet::read(text, &mut rows, &mut lines) {
-        Sheet::Rows { length } => written(&rows, length, &lines, plan),
-        Sheet::Wrong { line, reason, .. } => pair_of((reason as u64) % 4096 + 32, line as u64),
+        Ok(length) => written(&rows, length, &lines, plan),
+        Err(wrong) => pair_of(u64::from(wrong.reason.number()) + 32, u64::from(wrong.line)),
     }
 }
 

@@ -10,7 +10,7 @@ use super::{Desk, Said, first};
 use drawing::Out;
 use machine::State;
 use plan::Refusal;
-use sheet::Sheet;
+use sheet::Reason;
 
 // Whether two plans are the same, of this length.
 fn is_same(a: &[u8], b: &[u8], length: usize) -> bool {
@@ -39,7 +39,7 @@ pub(crate) fn line_after(number: u64, line: u64) -> u64 {
 }
 
 // What is wrong with a line of the text, and, where it is to be pointed at, by which word.
-fn put_wrong(out: &mut Out, line: u64, reason: usize, text: &[u8], place: usize, pointed: bool) {
+fn put_wrong(out: &mut Out, line: u64, reason: Reason, text: &[u8], place: usize, pointed: bool) {
     out.put(b"error");
     out.put_next(line);
     out.put_byte(b' ');
@@ -139,18 +139,14 @@ pub fn write(desk: &mut Desk, text: &[u8], number: u64) {
     let mut rows = [0u32; 87100];
     let mut lines = [0u32; 4355];
     match sheet::read(text, &mut rows, &mut lines) {
-        Sheet::Rows { length } => write_rows(desk, text, number, &rows, length, &lines),
-        Sheet::Wrong {
-            line,
-            reason,
-            place,
-        } => {
+        Ok(length) => write_rows(desk, text, number, &rows, length, &lines),
+        Err(wrong) => {
             put_wrong(
                 &mut desk.out,
-                line_after(number, line as u64),
-                reason,
+                line_after(number, u64::from(wrong.line)),
+                wrong.reason,
                 text,
-                place,
+                wrong.place,
                 desk.spoken,
             );
             desk.fail();

@@ -1,411 +1,274 @@
 // Reads an expression: numbers, variables and constants, with operations between them, and parentheses. An operation waits on a stack, with the row that
 // its left operand starts at, until what comes next binds no stronger (operations.rt); then it and its operands become rows (combining.rt).
-use super::combining::combine;
-use super::declaring::{declared, is_reserved, plain_variable};
-use super::marks::{after_word, byte_at, decimal, is_name, is_over, more, past_blanks, word_end};
-use super::operations::{are_compared, is_first, level, operation_at};
-use super::table::{add, begin};
+ghost use Rattle.std.specs.Prelude.{◌≤◌, ◌<◌, IfSome};
 
-// The next place and the next row; or what is wrong, by its reason, and where.
+use super::combining::Operands;
+use super::declaring::{Text, What, is_reserved};
+use super::marks::{
+    Span, after_word, byte_at, decimal, is_name, is_over, more, past_blanks, word_end,
+};
+use super::operations::{Operation, operation_at};
+use super::reasons::{Mistake, Reason};
+use super::table::{CONSTANT, Table, VARIABLE};
+
+// An operation that waits, and the row that its left operand starts at.
 #[derive(Clone, Copy)]
-pub struct Read {
-    pub at: usize,
-    pub row: usize,
-    pub wrong: usize,
-}
-
-fn wrong(reason: usize, at: usize) -> Read {
-    Read {
-        at,
-        row: 0,
-        wrong: reason,
-    }
-}
-
-// The number of the variable in the text from `from` to `to`: by its declared name, or as v0, v1, ..; 4,294,967,296 where there is none.
-pub fn variable(s: &[u8], stop: usize, from: usize, to: usize) -> u64 {
-    let k = declared(s, stop, 0, from, to);
-    if k < 4294967296 {
-        return k;
-    }
-    plain_variable(s, from, to)
-}
-
-pub fn narrow(x: u64) -> u32 {
-    if x < 4294967296 {
-        return x as u32;
-    }
-    4294967295
-}
-
-// A row of a code and a value, and the place after its word. A code of 0 is a constant, 1 a variable.
-fn leaf(
-    rows: &mut [u32; 87100],
-    lines: &mut [u32; 4355],
-    row: usize,
-    line: u32,
-    code: u32,
-    value: u64,
-    to: usize,
-) -> Read {
-    begin(rows, lines, row, line);
-    add(rows, row, code);
-    add(rows, row, narrow(value));
-    Read {
-        at: to,
-        row: more(row),
-        wrong: 0,
-    }
-}
-
-// A variable or a constant by its name, as row `row`.
-fn named(
-    s: &[u8],
-    stop: usize,
-    at: usize,
-    to: usize,
-    rows: &mut [u32; 87100],
-    lines: &mut [u32; 4355],
-    row: usize,
-    line: u32,
-) -> Read {
-    if is_reserved(s, at, to) {
-        return wrong(9, at);
-    }
-    let v = variable(s, stop, at, to);
-    if v < 4294967296 {
-        return leaf(rows, lines, row, line, 1, v, to);
-    }
-    let x = declared(s, stop, 3, at, to);
-    if x < 4294967296 {
-        return leaf(rows, lines, row, line, 0, x, to);
-    }
-    wrong(8, at)
-}
-
-// A number, a variable or a constant, as row `row`.
-fn operand(
-    s: &[u8],
-    stop: usize,
-    at: usize,
-    rows: &mut [u32; 87100],
-    lines: &mut [u32; 4355],
-    row: usize,
-    line: u32,
-) -> Read {
-    let to = word_end(s, at);
-    if to <= at {
-        return wrong(9, at);
-    }
-    if is_name(s, at) {
-        return named(s, stop, at, to, rows, lines, row, line);
-    }
-    let x = decimal(s, at, to);
-    if x < 4294967296 {
-        return leaf(rows, lines, row, line, 0, x, to);
-    }
-    wrong(10, at)
-}
-
-// The operation k from the bottom of the stack, and the row that its left operand starts at; a parenthesis where there is none.
-fn what_at(stack: &[usize; 128], k: usize) -> usize {
-    if k < 64 {
-        return stack[k * 2];
-    }
-    12
-}
-
-fn start_at(stack: &[usize; 128], k: usize) -> usize {
-    if k < 64 {
-        return stack[k * 2 + 1];
-    }
-    0
-}
-
-// The one on top.
-fn top_of(stack: &[usize; 128], top: usize) -> usize {
-    if 0 < top {
-        return what_at(stack, top - 1);
-    }
-    12
-}
-
-fn push(stack: &mut [usize; 128], k: usize, what: usize, start: usize) {
-    if k < 64 {
-        stack[k * 2] = what;
-        stack[k * 2 + 1] = start;
-    }
-}
-
-// Where the reading of an expression stands: the next place, the next row, how many operations wait, where the rows of the last operand start, whether an
-// operand comes next, whether all is over, and what is wrong.
-#[derive(Clone, Copy)]
-pub struct Turned {
-    pub at: usize,
-    pub row: usize,
-    pub top: usize,
-    pub from: usize,
-    pub wanted: bool,
-    pub over: bool,
-    pub wrong: usize,
-}
-
-fn failed(reason: usize, at: usize) -> Turned {
-    Turned {
-        at,
-        row: 0,
-        top: 0,
-        from: 0,
-        wanted: true,
-        over: false,
-        wrong: reason,
-    }
-}
-
-// An operand comes next.
-fn wanting(at: usize, row: usize, top: usize, from: usize) -> Turned {
-    Turned {
-        at,
-        row,
-        top,
-        from,
-        wanted: true,
-        over: false,
-        wrong: 0,
-    }
-}
-
-// An operand is whole.
-fn whole(at: usize, row: usize, top: usize, from: usize) -> Turned {
-    Turned {
-        at,
-        row,
-        top,
-        from,
-        wanted: false,
-        over: false,
-        wrong: 0,
-    }
-}
-
-fn ended(at: usize, row: usize) -> Turned {
-    Turned {
-        at,
-        row,
-        top: 0,
-        from: 0,
-        wanted: false,
-        over: true,
-        wrong: 0,
-    }
-}
-
-// One operation more waits, and an operand comes next.
-fn wait(
-    stack: &mut [usize; 128],
-    what: usize,
+struct Waiting {
+    operation: Operation,
     start: usize,
-    p: usize,
-    to: usize,
-    row: usize,
-    top: usize,
-) -> Turned {
-    if top < 64 {
-        push(stack, top, what, start);
-        return wanting(to, row, top + 1, start);
-    }
-    failed(11, p)
 }
 
-// What is read where an operand comes next: a parenthesis that opens, a `not`, or an operand.
-fn starts(
-    s: &[u8],
-    stop: usize,
-    p: usize,
-    rows: &mut [u32; 87100],
-    lines: &mut [u32; 4355],
-    stack: &mut [usize; 128],
-    line: u32,
-    row: usize,
-    top: usize,
-) -> Turned {
-    if byte_at(s, p) == 40 {
-        return wait(stack, 12, row, p, more(p), row, top);
-    }
-    let not = after_word(s, p, b"not");
-    if 0 < not {
-        if level(top_of(stack, top)) < 4 {
-            return wait(stack, 3, row, p, not, row, top);
+// The operations that wait, the outermost first.
+// Stays: (a) an array and how many of it are used: the crates that are installed for C have no heap.
+#[derive(Clone, Copy)]
+struct Stack {
+    waiting: [Waiting; 64],
+    many: usize,
+    ghost in_room: { many ≤ 64 },
+}
+
+impl Stack {
+    fn new() -> Stack {
+        let none = Waiting {
+            operation: Operation::Parenthesis,
+            start: 0,
+        };
+        Stack {
+            waiting: [none; 64],
+            many: 0,
         }
     }
-    let o = operand(s, stop, p, rows, lines, row, line);
-    if 0 < o.wrong {
-        return failed(o.wrong, o.at);
-    }
-    whole(o.at, o.row, top, row)
-}
 
-// What is done before an operation that comes next: those that wait and bind stronger become rows.
-fn reduce(
-    rows: &mut [u32; 87100],
-    lines: &mut [u32; 4355],
-    stack: &[usize; 128],
-    line: u32,
-    next: usize,
-    t: Turned,
-) -> Turned {
-    let mut row = t.row;
-    let mut from = t.from;
-    let mut top = t.top;
-    while 0 < top {
-        let what = what_at(stack, top - 1);
-        if is_first(what, next) {
-            let start = start_at(stack, top - 1);
-            row = combine(rows, lines, line, what, start, from, row);
-            from = start;
-            top -= 1;
+    // The innermost one.
+    fn top(&self) -> Option<Waiting>
+        ensures { IfSome result (λ _. 0 < self.now.many) }
+    {
+        if 0 < self.many {
+            Some(self.waiting[self.many - 1])
         } else {
-            return whole(t.at, row, top, from);
+            None
         }
     }
-    whole(t.at, row, top, from)
+
+    // It waits no more, where it is done before the next operation.
+    fn pop_before(&mut self, next: Operation) -> Option<Waiting>
+        ensures { IfSome result (λ _. self.new.many < self.old.many) }
+    {
+        let top = self.top()?;
+        if !top.operation.is_before(next) {
+            return None;
+        }
+        self.many -= 1;
+        Some(top)
+    }
+
+    fn pop(&mut self) -> Option<Waiting> {
+        let top = self.top()?;
+        self.many -= 1;
+        Some(top)
+    }
+
+    // Whether there was room for one more.
+    fn push(&mut self, operation: Operation, start: usize) -> bool {
+        if self.many < 64 {
+            self.waiting[self.many] = Waiting { operation, start };
+            self.many += 1;
+            true
+        } else {
+            false
+        }
+    }
 }
 
-// A parenthesis closes.
-fn closes(p: usize, t: Turned) -> Turned {
-    if 0 < t.top {
-        return whole(more(p), t.row, t.top - 1, t.from);
-    }
-    failed(9, p)
+// What comes next in an expression, and from which place on.
+#[derive(Clone, Copy)]
+enum Next {
+    Operand(usize),
+    Operation(usize),
+    Over(usize),
 }
 
-// The line is over: so is the expression, where no parenthesis is open.
-fn ends(p: usize, t: Turned) -> Turned {
-    if 0 < t.top {
-        return failed(9, p);
-    }
-    ended(p, t.row)
-}
-
-// An operation comes next.
-fn goes_on(
-    s: &[u8],
-    p: usize,
-    rows: &mut [u32; 87100],
-    lines: &mut [u32; 4355],
-    stack: &mut [usize; 128],
-    line: u32,
-    t: Turned,
-) -> Turned {
-    let o = operation_at(s, p);
-    let what = o.what;
-    if what == 0 {
-        return failed(9, p);
-    }
-    let d = reduce(rows, lines, stack, line, what, t);
-    if are_compared(top_of(stack, d.top), what) {
-        return failed(9, p);
-    }
-    wait(stack, what, d.from, p, o.to, d.row, d.top)
-}
-
-// What is read behind an operand: the end, a parenthesis that closes, or an operation.
-fn follows(
-    s: &[u8],
-    p: usize,
-    rows: &mut [u32; 87100],
-    lines: &mut [u32; 4355],
-    stack: &mut [usize; 128],
-    line: u32,
-    t: Turned,
-) -> Turned {
-    if is_over(s, p) {
-        return ends(p, reduce(rows, lines, stack, line, 12, t));
-    }
-    if byte_at(s, p) == 41 {
-        return closes(p, reduce(rows, lines, stack, line, 12, t));
-    }
-    goes_on(s, p, rows, lines, stack, line, t)
-}
-
-fn turn(
-    s: &[u8],
-    stop: usize,
-    p: usize,
-    rows: &mut [u32; 87100],
-    lines: &mut [u32; 4355],
-    stack: &mut [usize; 128],
-    line: u32,
-    t: Turned,
-) -> Turned {
-    if t.wanted {
-        return starts(s, stop, p, rows, lines, stack, line, t.row, t.top);
-    }
-    follows(s, p, rows, lines, stack, line, t)
-}
-
-// What is wrong after a turn: what it found, or that the rows have no room.
-fn wrong_of(t: Turned) -> usize {
-    if 0 < t.wrong {
-        return t.wrong;
-    }
-    if 4355 < t.row {
-        return 12;
-    }
-    0
-}
-
-// An expression from `at` to the end of its line, in the rows from `row` on.
-pub fn expression(
-    s: &[u8],
-    stop: usize,
-    at: usize,
-    rows: &mut [u32; 87100],
-    lines: &mut [u32; 4355],
+// An expression while it is read: the operations that wait, where the rows of the last operand start, and the next row.
+#[derive(Drop)]
+struct Reading<'t, 'r, 'a> {
+    text: Text<'t>,
+    table: &'r mut Table<'a>,
+    stack: Stack,
+    from: usize,
     row: usize,
-    line: u32,
-) -> Read {
-    let mut stack = [0usize; 128];
+}
+
+impl Reading<'_, '_, '_> {
+    // The code and the value of a variable or a constant by its name.
+    fn named(&self, word: Span) -> Result<(u32, u32), Mistake> {
+        if is_reserved(word.of(self.text.bytes)) {
+            return Err(Reason::Expression.at(word.from));
+        }
+        if let Some(k) = self.text.variable(word) {
+            return Ok((VARIABLE, k));
+        }
+        match self.text.declared(What::Constant, word) {
+            Some(value) => Ok((CONSTANT, value)),
+            None => Err(Reason::Name.at(word.from)),
+        }
+    }
+
+    // The code and the value of a number, a variable or a constant.
+    fn operand(&self, word: Span) -> Result<(u32, u32), Mistake> {
+        let s = self.text.bytes;
+        if word.is_empty() {
+            return Err(Reason::Expression.at(word.from));
+        }
+        if is_name(s, word.from) {
+            return self.named(word);
+        }
+        match decimal(word.of(s)) {
+            Some(value) => Ok((CONSTANT, value)),
+            None => Err(Reason::Number.at(word.from)),
+        }
+    }
+
+    // One operation more waits, and an operand comes next.
+    fn wait(
+        &mut self,
+        operation: Operation,
+        start: usize,
+        p: usize,
+        to: usize,
+    ) -> Result<Next, Mistake> {
+        if self.stack.push(operation, start) {
+            Ok(Next::Operand(to))
+        } else {
+            Err(Reason::Operations.at(p))
+        }
+    }
+
+    // What is read where an operand comes next: a parenthesis that opens, a `not`, or an operand.
+    fn starts(&mut self, p: usize) -> Result<Next, Mistake> {
+        let s = self.text.bytes;
+        let row = self.row;
+        if byte_at(s, p) == b'(' {
+            return self.wait(Operation::Parenthesis, row, p, more(p));
+        }
+        if let Some(to) = after_word(s, p, b"not")
+            && self.stack.top().is_none_or(|top| top.operation.level() < 4)
+        {
+            return self.wait(Operation::Not, row, p, to);
+        }
+        let to = word_end(s, p);
+        let (code, value) = self.operand(Span { from: p, to })?;
+        self.table.begin(row);
+        self.table.add(row, code);
+        self.table.add(row, value);
+        self.from = row;
+        self.row = more(row);
+        Ok(Next::Operation(to))
+    }
+
+    // What is done before an operation that comes next: those that wait and bind stronger become rows.
+    fn reduce(&mut self, next: Operation) {
+        while let Some(top) = self.stack.pop_before(next) {
+            self.row = self.table.combine(
+                top.operation,
+                Operands {
+                    left: top.start,
+                    right: self.from,
+                    end: self.row,
+                },
+            );
+            self.from = top.start;
+        }
+    }
+
+    // The line is over: so is the expression, where no parenthesis is open.
+    fn ends(&mut self, p: usize) -> Result<Next, Mistake> {
+        self.reduce(Operation::Parenthesis);
+        match self.stack.top() {
+            Some(_) => Err(Reason::Expression.at(p)),
+            None => Ok(Next::Over(p)),
+        }
+    }
+
+    // A parenthesis closes.
+    fn closes(&mut self, p: usize) -> Result<Next, Mistake> {
+        self.reduce(Operation::Parenthesis);
+        match self.stack.pop() {
+            Some(_) => Ok(Next::Operation(more(p))),
+            None => Err(Reason::Expression.at(p)),
+        }
+    }
+
+    // What is read behind an operand: the end, a parenthesis that closes, or an operation.
+    fn follows(&mut self, p: usize) -> Result<Next, Mistake> {
+        let s = self.text.bytes;
+        if is_over(s, p) {
+            return self.ends(p);
+        }
+        if byte_at(s, p) == b')' {
+            return self.closes(p);
+        }
+        let (operation, to) = operation_at(s, p).ok_or(Reason::Expression.at(p))?;
+        self.reduce(operation);
+        if self
+            .stack
+            .top()
+            .is_some_and(|top| top.operation.is_compared(operation))
+        {
+            return Err(Reason::Expression.at(p));
+        }
+        self.wait(operation, self.from, p, to)
+    }
+
+    // That the rows have no room, where that is so.
+    fn fits(&self, at: usize) -> Result<(), Mistake> {
+        if self.table.rows.len() < self.row {
+            Err(Reason::Rows.at(at))
+        } else {
+            Ok(())
+        }
+    }
+}
+
+// An expression from `at` to the end of its line, in the rows from `row` on: the place of its end, and the next row.
+pub fn expression(
+    text: Text,
+    at: usize,
+    table: &mut Table,
+    row: usize,
+) -> Result<(usize, usize), Mistake> {
+    let s = text.bytes;
+    let mut e = Reading {
+        text,
+        table,
+        stack: Stack::new(),
+        from: row,
+        row,
+    };
     let mut p = past_blanks(s, at);
-    let mut t = wanting(p, row, 0, row);
+    let mut wanted = true;
+    // Stays: (d) no `for` and no iterator: each turn says itself how far it has read.
     while p < s.len() {
-        t = turn(s, stop, p, rows, lines, &mut stack, line, t);
-        let w = wrong_of(t);
-        if 0 < w {
-            return wrong(w, t.at);
-        }
-        if t.over {
-            return Read {
-                at: t.at,
-                row: t.row,
-                wrong: 0,
-            };
-        }
-        let q = past_blanks(s, t.at);
+        let next = if wanted { e.starts(p)? } else { e.follows(p)? };
+        let (to, operand) = match next {
+            Next::Operand(to) => (to, true),
+            Next::Operation(to) => (to, false),
+            Next::Over(to) => {
+                e.fits(to)?;
+                return Ok((to, e.row));
+            }
+        };
+        e.fits(to)?;
+        let q = past_blanks(s, to);
         if q <= p {
-            return wrong(9, p);
+            return Err(Reason::Expression.at(p));
         }
         p = q;
+        wanted = operand;
     }
-    finished(rows, lines, &stack, line, p, t)
-}
-
-// The text ends: so does the expression, where it is whole.
-fn finished(
-    rows: &mut [u32; 87100],
-    lines: &mut [u32; 4355],
-    stack: &[usize; 128],
-    line: u32,
-    p: usize,
-    t: Turned,
-) -> Read {
-    if t.wanted {
-        return wrong(9, p);
+    if wanted {
+        return Err(Reason::Expression.at(p));
     }
-    let e = ends(p, reduce(rows, lines, stack, line, 12, t));
-    Read {
-        at: p,
-        row: e.row,
-        wrong: wrong_of(e),
-    }
+    e.ends(p)?;
+    e.fits(p)?;
+    Ok((p, e.row))
 }

@@ -1,187 +1,160 @@
-// The characters, words and marks of a line. A place is an index into the text; where a word or mark is not there, the next place is 0.
-ghost use Rattle.std.specs.Prelude.{◌≤◌};
+// The characters, words and marks of a line. A place is an index into the text.
+ghost use Rattle.std.specs.Prelude.{◌-◌, ◌≤◌, ◌<◌, IfSome, length};
+ghost use Rattle.std.specs.Iterator.{at_most};
 
-pub fn byte_at(s: &[u8], at: usize) -> u8 {
-    if at < s.len() {
-        return s[at];
-    }
-    10
+// A word of the text: from where it begins to before where it ends.
+#[derive(Clone, Copy)]
+pub struct Span {
+    pub from: usize,
+    pub to: usize,
 }
 
-fn is_digit(b: u8) -> bool {
-    if b < 48 {
-        return false;
+impl Span {
+    // How many characters it has.
+    pub fn length(self) -> usize {
+        self.to.saturating_sub(self.from)
     }
-    b < 58
+
+    pub fn is_empty(self) -> bool {
+        self.to <= self.from
+    }
+
+    // Its characters.
+    pub fn of(self, s: &[u8]) -> &[u8] {
+        s.get(self.from..self.to).unwrap_or(&[])
+    }
 }
 
-// A letter or an underscore.
+// The character at a place; a line feed beyond the text.
+pub(crate) fn byte_at(s: &[u8], at: usize) -> u8 {
+    s.get(at).copied().unwrap_or(b'\n')
+}
+
+// Whether a name may begin with it: a letter or an underscore.
 fn is_letter(b: u8) -> bool {
-    if b == 95 {
-        return true;
-    }
-    if b < 65 {
-        return false;
-    }
-    if b < 91 {
-        return true;
-    }
-    if b < 97 {
-        return false;
-    }
-    b < 123
+    b == b'_' || b.is_ascii_alphabetic()
 }
 
 fn is_inner(b: u8) -> bool {
-    if is_digit(b) {
-        return true;
-    }
-    is_letter(b)
+    is_letter(b) || b.is_ascii_digit()
 }
 
 // The place or row after n.
+// Stays: (a) no library method ends at 4,294,967,295, and what a text gives is promised to stay, however long it is.
 pub fn more(n: usize) -> usize {
-    if n < 4294967295 {
-        return n + 1;
-    }
-    n
+    if n < 4294967295 { n + 1 } else { n }
 }
 
-// The end of the line that `at` is in: the place of its line feed, or the end of the text.
-pub fn line_end(s: &[u8], at: usize) -> usize {
-    let mut p = at;
-    while p < s.len() {
-        if s[p] == 10 {
-            return p;
+// The first place from `at` on whose character is one of these.
+fn first<F: Fn(u8) -> bool>(s: &[u8], at: usize, is_it: F) -> Option<usize>
+    requires { F.IsAlwaysCallable is_it }
+    ensures { IfSome result (λ p. (at ≤ p) × (p < length s.now)) }
+{
+    for p in at..s.len() {
+        if is_it(s[p]) {
+            return Some(p);
         }
-        p += 1;
     }
-    s.len()
+    None
 }
 
-// The place of the next line; `stop` where it has none before it.
-pub fn next_line(s: &[u8], at: usize, stop: usize) -> usize {
-    let end = line_end(s, at);
-    if end < stop {
-        return end + 1;
+// The lines of a part of the text: the place of each, in turn.
+#[derive(Drop)]
+pub struct Lines<'a> {
+    bytes: &'a [u8],
+    at: usize,
+    stop: usize,
+}
+
+impl<'a> Lines<'a> {
+    // Those from the one at `at` to before `stop`.
+    pub fn between(bytes: &'a [u8], at: usize, stop: usize) -> Self {
+        Lines { bytes, at, stop }
     }
-    stop
+
+    // Those of the whole text.
+    pub fn of(bytes: &'a [u8]) -> Self {
+        Lines::between(bytes, 0, bytes.len())
+    }
+}
+
+impl Iterator for Lines<'_> {
+    type Item = usize;
+
+    ghost remaining = { λ s. at_most (s.stop - s.at) };
+
+    fn next(&mut self) -> Option<usize> {
+        let at = self.at;
+        if self.stop <= at {
+            return None;
+        }
+        self.at = match first(self.bytes, at, |b| b == b'\n') {
+            Some(end) if end < self.stop => end + 1,
+            _ => self.stop,
+        };
+        Some(at)
+    }
 }
 
 // The first place from `at` on that is no space.
-pub fn past_blanks(s: &[u8], at: usize) -> usize {
-    let mut p = at;
-    while p < s.len() {
-        if s[p] == 32 {
-            p += 1;
-        } else {
-            return p;
-        }
-    }
-    p
+pub fn past_blanks(s: &[u8], at: usize) -> usize
+    ensures { at ≤ result }
+{
+    first(s, at, |b| b != b' ').unwrap_or(at.max(s.len()))
 }
 
 // The place after the letters and digits from `at` on.
-pub fn word_end(s: &[u8], at: usize) -> usize {
-    let mut p = at;
-    while p < s.len() {
-        if is_inner(s[p]) {
-            p += 1;
-        } else {
-            return p;
-        }
-    }
-    p
+pub fn word_end(s: &[u8], at: usize) -> usize
+    ensures { at ≤ result }
+{
+    first(s, at, |b| !is_inner(b)).unwrap_or(at.max(s.len()))
 }
 
-// The place of the first tab in the line, before its comment; the end of the text where there is none.
-pub fn tab_in(s: &[u8], at: usize) -> usize {
-    let mut p = at;
-    while p < s.len() {
-        let b = s[p];
-        if b == 9 {
-            return p;
-        }
-        if b == 10 {
-            return s.len();
-        }
-        if b == 35 {
-            return s.len();
-        }
-        p += 1;
+// The next word of the line, which is empty where none is next.
+pub fn word_at(s: &[u8], at: usize) -> Span
+    ensures { at ≤ result.to }
+{
+    let from = past_blanks(s, at);
+    Span {
+        from,
+        to: word_end(s, from),
     }
-    s.len()
+}
+
+// The place of the first tab in the line, before its comment.
+pub fn tab_in(s: &[u8], at: usize) -> Option<usize> {
+    first(s, at, |b| matches!(b, b'\t' | b'\n' | b'#')).filter(|p| byte_at(s, *p) == b'\t')
 }
 
 // Whether nothing but blanks and a comment is left of the line.
 pub fn is_over(s: &[u8], at: usize) -> bool {
-    let b = byte_at(s, past_blanks(s, at));
-    if b == 10 {
-        return true;
-    }
-    b == 35
-}
-
-// Whether the text from `from` to `to` is this word.
-pub fn is_word(s: &[u8], from: usize, to: usize, word: &[u8]) -> bool {
-    let mut i = 0;
-    while i < word.len() {
-        if to <= from {
-            return false;
-        }
-        if to - from <= i {
-            return false;
-        }
-        if byte_at(s, from + i) == word[i] {
-            i += 1;
-        } else {
-            return false;
-        }
-    }
-    if to < from {
-        return false;
-    }
-    to - from == i
-}
-
-// Whether two parts of the text are the same.
-pub fn is_same(s: &[u8], from: usize, to: usize, other: usize, end: usize) -> bool {
-    let mut p = from;
-    let mut q = other;
-    while p < to {
-        if q < end {
-            if byte_at(s, p) == byte_at(s, q) {
-                p += 1;
-                q += 1;
-            } else {
-                return false;
-            }
-        } else {
-            return false;
-        }
-    }
-    q == end
+    matches!(byte_at(s, past_blanks(s, at)), b'\n' | b'#')
 }
 
 // The place after this word, where it is the next of the line.
-pub fn after_word(s: &[u8], at: usize, word: &[u8]) -> usize {
-    let from = past_blanks(s, at);
-    let to = word_end(s, from);
-    if is_word(s, from, to, word) {
-        return to;
-    }
-    0
+pub fn after_word(s: &[u8], at: usize, word: &[u8]) -> Option<usize>
+    ensures { IfSome result (λ p. at ≤ p) }
+{
+    let next = word_at(s, at);
+    (next.of(s) == word).then_some(next.to)
+}
+
+// The place after these two words, where they are the next of the line.
+pub fn after_words(s: &[u8], at: usize, word: &[u8], other: &[u8]) -> Option<usize> {
+    let p = after_word(s, at, word)?;
+    after_word(s, p, other)
 }
 
 // The place after this mark, where it is next in the line.
-pub fn after_mark(s: &[u8], at: usize, mark: u8) -> usize {
+pub fn after_mark(s: &[u8], at: usize, mark: u8) -> Option<usize>
+    ensures { IfSome result (λ p. (at < p) × (p ≤ length s.now)) }
+{
     let p = past_blanks(s, at);
-    if p < s.len() {
-        if s[p] == mark {
-            return p + 1;
-        }
+    if p < s.len() && s[p] == mark {
+        Some(p + 1)
+    } else {
+        None
     }
-    0
 }
 
 // Whether the word at `from` starts as a name does.
@@ -189,33 +162,15 @@ pub fn is_name(s: &[u8], from: usize) -> bool {
     is_letter(byte_at(s, from))
 }
 
-// The number that digits spell; 4,294,967,296 where they are none, or spell more than 4,294,967,295.
-pub fn decimal(s: &[u8], from: usize, to: usize) -> u64 {
-    let mut value: u64 = 0;
-    let mut p = from;
-    if to <= from {
-        return 4294967296;
+// The number that digits spell, where they spell one up to 4,294,967,295.
+pub fn decimal(digits: &[u8]) -> Option<u32> {
+    if digits.is_empty() {
+        return None;
     }
-    while p < to {
-        let b = byte_at(s, p);
-        if is_digit(b) {
-            value = value * 10 + digit(b);
-            if 4294967295 < value {
-                return 4294967296;
-            }
-            p += 1;
-        } else {
-            return 4294967296;
-        }
+    let mut value: u32 = 0;
+    for b in digits {
+        let digit = char::from(*b).to_digit(10)?;
+        value = value.checked_mul(10)?.checked_add(digit)?;
     }
-    value
-}
-
-fn digit(b: u8) -> u64
-    ensures { result ≤ 255 }
-{
-    if b < 48 {
-        return 0;
-    }
-    (b - 48) as u64
+    Some(value)
 }

@@ -1,82 +1,71 @@
-// The operations of an expression, by a number each: 1 or, 2 and, 3 not; 4 to 9 the comparisons =, <, >, <=, >= and !=; 10 and 11 sum and difference; and
-// 12, a parenthesis that opens. 0 is none of them.
+// The operations of an expression.
 use super::marks::{after_word, byte_at, more};
 
-// An operation, and the place after it.
-#[derive(Clone, Copy)]
-pub struct Operation {
-    pub what: usize,
-    pub to: usize,
+#[derive(Clone, Copy, PartialEq, Eq)]
+pub(crate) enum Operation {
+    Or,
+    And,
+    Not,
+    Equal,
+    Less,
+    More,
+    NotMore,
+    NotLess,
+    NotEqual,
+    Sum,
+    Difference,
+    // A parenthesis that opens.
+    Parenthesis,
 }
 
-fn operation_to(what: usize, to: usize) -> Operation {
-    Operation { what, to }
-}
+use Operation::{
+    And, Difference, Equal, Less, More, Not, NotEqual, NotLess, NotMore, Or, Parenthesis, Sum,
+};
 
-// An operation of one mark, or another where a `=` follows it at once.
-fn of_mark(s: &[u8], p: usize, alone: usize, with: usize) -> Operation {
-    let next = more(p);
-    if byte_at(s, next) == 61 {
-        return operation_to(with, more(next));
+impl Operation {
+    // How strongly it binds: `or` least, sums most; a parenthesis holds everything apart.
+    pub(crate) fn level(self) -> usize {
+        match self {
+            Parenthesis => 0,
+            Or => 1,
+            And => 2,
+            Not => 3,
+            Equal | Less | More | NotMore | NotLess | NotEqual => 4,
+            Sum | Difference => 5,
+        }
     }
-    operation_to(alone, next)
-}
 
-fn of_word(s: &[u8], p: usize) -> Operation {
-    let both = after_word(s, p, b"and");
-    if 0 < both {
-        return operation_to(2, both);
+    // Whether it is done before the next one. Sums go from the left, `and` and `or` from the right.
+    pub(crate) fn is_before(self, next: Operation) -> bool {
+        next.level() < self.level() || next.level() == self.level() && self.level() == 5
     }
-    operation_to(1, after_word(s, p, b"or"))
-}
 
-fn worded(s: &[u8], p: usize) -> Operation {
-    let o = of_word(s, p);
-    if 0 < o.to {
-        return o;
-    }
-    operation_to(0, p)
-}
-
-// The operation between two operands that is next, at p.
-pub(crate) fn operation_at(s: &[u8], p: usize) -> Operation {
-    match byte_at(s, p) {
-        43 => operation_to(10, more(p)),
-        45 => operation_to(11, more(p)),
-        61 => operation_to(4, more(p)),
-        60 => of_mark(s, p, 5, 7),
-        62 => of_mark(s, p, 6, 8),
-        33 => of_mark(s, p, 0, 9),
-        _ => worded(s, p),
+    // Whether two comparisons stand side by side, which is no expression.
+    pub(crate) fn is_compared(self, next: Operation) -> bool {
+        self.level() == 4 && next.level() == 4
     }
 }
 
-// How strongly an operation binds: `or` least, sums most; a parenthesis holds everything apart.
-pub(crate) fn level(what: usize) -> usize {
-    match what {
-        1 => 1,
-        2 => 2,
-        3 => 3,
-        10 | 11 => 5,
-        12 => 0,
-        _ => 4,
-    }
+// The operation between two operands that is next, at p, and the place after it. A `=` may follow one mark at once.
+pub(crate) fn operation_at(s: &[u8], p: usize) -> Option<(Operation, usize)> {
+    let behind = more(p);
+    let operation = match (byte_at(s, p), byte_at(s, behind)) {
+        (b'<', b'=') => return Some((NotMore, more(behind))),
+        (b'>', b'=') => return Some((NotLess, more(behind))),
+        (b'!', b'=') => return Some((NotEqual, more(behind))),
+        (b'+', _) => Sum,
+        (b'-', _) => Difference,
+        (b'=', _) => Equal,
+        (b'<', _) => Less,
+        (b'>', _) => More,
+        _ => return worded(s, p),
+    };
+    Some((operation, behind))
 }
 
-// Whether an operation is done before the next one. Sums go from the left, `and` and `or` from the right.
-pub(crate) fn is_first(what: usize, next: usize) -> bool {
-    let here = level(what);
-    let there = level(next);
-    if here == there {
-        return here == 5;
+fn worded(s: &[u8], p: usize) -> Option<(Operation, usize)> {
+    match after_word(s, p, b"and") {
+        Some(to) => Some((And, to)),
+        None => after_word(s, p, b"or").map(|to| (Or, to)),
     }
-    there < here
-}
-
-// Whether two comparisons stand side by side, which is no expression.
-pub(crate) fn are_compared(what: usize, next: usize) -> bool {
-    if level(what) == 4 {
-        return level(next) == 4;
-    }
-    false
 }

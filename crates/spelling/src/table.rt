@@ -1,68 +1,89 @@
-// The rows of a table while it is filled, and the line of the text that each of them is from.
+// The table while it is filled.
+use super::marks::more;
 
-// `value` is put into place c of row r, where there is such a place.
-pub fn put(rows: &mut [u32; 87100], r: usize, c: usize, value: u32) {
-    if r < 4355 {
-        if c < 20 {
-            rows[r * 20 + c] = value;
+// The codes of an expression's rows.
+pub(crate) const CONSTANT: u32 = 0;
+
+pub(crate) const VARIABLE: u32 = 1;
+
+pub(crate) const SUM: u32 = 2;
+
+pub(crate) const DIFFERENCE: u32 = 3;
+
+pub(crate) const EQUAL: u32 = 4;
+
+pub(crate) const LESS: u32 = 5;
+
+// Its rows, the line of the text that each of them is from, and the line that those are from which begin now. The first number
+// of a row says how many of the 19 behind it are used.
+#[derive(Drop)]
+pub struct Table<'a> {
+    pub rows: &'a mut [[u32; 20]],
+    pub lines: &'a mut [u32],
+    pub line: u32,
+}
+
+impl Table<'_> {
+    // Whether there is room for a row r.
+    pub fn has_room(&self, r: usize) -> bool {
+        r < self.rows.len()
+    }
+
+    // `value` is put into place c of row r, where there is such a place.
+    pub fn put(&mut self, r: usize, c: usize, value: u32) {
+        if r < self.rows.len() && c < 20 {
+            self.rows[r][c] = value;
         }
     }
-}
 
-pub fn get(rows: &[u32; 87100], r: usize, c: usize) -> u32 {
-    if r < 4355 {
-        if c < 20 {
-            return rows[r * 20 + c];
+    // Row r has no numbers, and is from this line.
+    pub fn begin(&mut self, r: usize) {
+        if r < self.rows.len() {
+            self.rows[r] = [0; 20];
+        }
+        if r < self.lines.len() {
+            self.lines[r] = self.line;
         }
     }
-    0
-}
 
-// Row r has no numbers, and is from this line.
-pub fn begin(rows: &mut [u32; 87100], lines: &mut [u32; 4355], r: usize, line: u32) {
-    let mut c = 0;
-    while c < 20 {
-        put(rows, r, c, 0);
-        c += 1;
+    // One number more in row r.
+    pub fn add(&mut self, r: usize, value: u32) {
+        if r < self.rows.len() {
+            let n = self.rows[r][0];
+            if n < 19 {
+                self.rows[r][n as usize + 1] = value;
+                self.rows[r][0] = n + 1;
+            }
+        }
     }
-    put_line(lines, r, line);
-}
 
-fn put_line(lines: &mut [u32; 4355], r: usize, line: u32) {
-    if r < 4355 {
-        lines[r] = line;
+    // The line that row r is from.
+    pub fn line_of(&self, r: usize) -> u32 {
+        self.lines.get(r).copied().unwrap_or(0)
     }
-}
 
-// One number more in row r.
-pub fn add(rows: &mut [u32; 87100], r: usize, value: u32) {
-    let n = get(rows, r, 0);
-    if n < 19 {
-        put(rows, r, n as usize + 1, value);
-        put(rows, r, 0, n + 1);
+    // Whether row r, of an expression, is a comparison.
+    pub(crate) fn is_comparison(&self, r: usize) -> bool {
+        self.rows
+            .get(r)
+            .is_some_and(|row| matches!(row[1], EQUAL | LESS))
     }
-}
 
-// Whether there is room for a row r.
-pub fn is_there(r: usize) -> bool {
-    r < 4355
-}
-
-// A row of an expression: a count, a code, and a value.
-pub(crate) fn copy(rows: &mut [u32; 87100], from: usize, to: usize) {
-    let mut c = 0;
-    while c < 3 {
-        let x = get(rows, from, c);
-        put(rows, to, c, x);
-        c += 1;
+    // A row of a code comes in at row s, before those of an expression that end before row r: the row after them.
+    pub(crate) fn insert(&mut self, s: usize, r: usize, code: u32) -> usize {
+        self.begin(r);
+        if s <= r && r < self.rows.len() {
+            self.rows.copy_within(s..r, s + 1);
+        }
+        self.begin(s);
+        self.add(s, code);
+        more(r)
     }
-}
 
-// The rows of an expression from `first` to before `end` move one row on.
-pub(crate) fn shift(rows: &mut [u32; 87100], first: usize, end: usize) {
-    let mut r = end;
-    while first < r {
-        copy(rows, r - 1, r);
-        r -= 1;
+    // Of the rows of an expression from row s to before row r those from row m on come first.
+    pub(crate) fn swap(&mut self, s: usize, m: usize, r: usize) {
+        if s <= m && m <= r && r <= self.rows.len() {
+            self.rows[s..r].rotate_left(m - s);
+        }
     }
 }
