@@ -37,6 +37,7 @@ fn column(table: &[u32], k: usize, c: usize) -> usize
 }
 
 // How many bytes stand before the count of a receive, or of an arm; 0 for all else.
+#[tactic(auto, unfolding(crate::specs::Heard::ahead_of))]
 fn ahead(kind: usize) -> usize
     ensures is { result ≡ ahead_of kind }
     ensures small { result ≤ 3 }

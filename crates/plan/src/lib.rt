@@ -90,6 +90,7 @@ pub type Answer = Result<Accepted, Refusal>;
 
 // The whole plan, written over what the table held: for a caller with a blank table, which need not be blanked again. Its answer, and in the lent
 // arrays its rows and which variables are for correlation; all zero where it is refused.
+// Stays: (a) the flags are bytes and no bools: `flags_for`, in the clauses of both calls, says so, and an argument's type may not change.
 pub fn accept_over(s: &[u8], table: &mut Table, correlation: &mut [u8; 16]) -> Answer
     ensures is { result ≡ answer_of (read_plan s.now) }
     ensures rows { table.new ≡ table_into table.old (read_plan s.now) }

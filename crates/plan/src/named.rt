@@ -11,6 +11,7 @@ use super::fields::number_at;
 use numbers::Number;
 
 // Whether a fault part may have this number.
+#[tactic(auto, unfolding(crate::specs::Read::namable))]
 fn is_namable(x: u32) -> bool
     ensures { result ≡ namable x }
 {

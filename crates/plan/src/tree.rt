@@ -29,6 +29,7 @@ fn later_of(kind: u32, handler: bool) -> bool
 }
 
 // Whether an activity of this kind is a start form.
+#[tactic(auto, unfolding(crate::specs::Read::starts))]
 fn starts_of(kind: u32, first: bool, every: bool) -> bool
     ensures { result ≡ starts kind first every }
 {
