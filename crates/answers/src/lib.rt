@@ -9,6 +9,7 @@ use machine::Step;
 use order::End;
 
 // The number of an end.
+// Stays: (d) the numbers are document 01's for callers in C, and say so here; a cast of the enum would leave them to the order of its variants.
 #[tactic(auto, unfolding(machine::specs::Calls::end_number))]
 fn end_of(end: End) -> u64
     ensures { result ≡ end_number end }

@@ -32,16 +32,6 @@ use Rattle.store.specs.Packed.{packed_into, message_into, unpacked}
 use Rattle.boundary.specs.Packed.{pair_of}
 use Rattle.boundary.specs.Engine.{updated, load_number, load_bytes, post_number, post_bytes, handed_number, handed_bytes, handed_message, offers_number, offer_number, offers_of, list_number, list_out, step_of, step_bytes, ran_in, run_bytes, run_told}
 
--- `offers_number`
-pub offers-held : (x : Offered) → x.held ≡ true
-    → x.refusal % 16777216 * 1099511627776 + x.many % 4294967296 + 4294967296 ≡ offers_number x
-unfolding offers_number
-offers-held x q = rw q
-
-pub offers-free : (x : Offered) → x.held ≡ false → x.refusal % 16777216 * 1099511627776 + x.many % 4294967296 ≡ offers_number x
-unfolding offers_number
-offers-free x q = rw (q, add-zero)
-
 -- the bytes after a call that was taken, and after one that was refused
 done : {n : ℕ} {s u : State} {t v : Tally} (l : List ℕ) {o : List ℕ} → n ≡ 0 → o ≡ packed_into s t l → s ≡ u → t ≡ v → o ≡ updated n u v l
 unfolding updated

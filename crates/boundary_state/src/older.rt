@@ -90,6 +90,7 @@ fn byte_of(old: &[u8], table: &Table, i: usize) -> u8
 }
 
 // All of them.
+// Stays: (d) the twin of `cause` and `reply`: one function for the three would take the byte at each place as a closure, and its loop is one line.
 #[tactic(auto, using(crate::proofs::Sets::fill))]
 fn fill(old: &[u8], table: &Table, state: &mut [u8])
     requires { (length old.now ≡ 11964) × (length state.old ≡ 12476) }

@@ -13,6 +13,7 @@ use plan::table::Table;
 use sight::counting::nothing_seen;
 
 // What the message at place j adds: it is asked for one choice after the other, from the first that is wanted on.
+// Stays: (d) the twin of `list_row`: one function for both would take what is seen at a choice as a closure of twelve captures, and say no more.
 fn list_letter(
     table: &Table,
     flags: &[u8; 16],

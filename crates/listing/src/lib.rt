@@ -22,6 +22,7 @@ pub struct Window {
 }
 
 // How many steps were written; or a refusal.
+// Stays: (a) `list_number` of boundary/specs/Engine.antt speaks of both as numbers for C.
 #[derive(Clone, Copy)]
 pub struct Listed {
     pub refusal: u32,

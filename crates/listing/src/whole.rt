@@ -15,6 +15,7 @@ use plan::table::Table;
 
 // First, for each message that waits, the fewest unchecked places of the open receives that it fits; then what each live order adds; then what may start.
 // The loops stand here and a free slot is passed by, since orders go by value: a call with all of them, or with one, copies them.
+// Stays: (d) the twin of `sight_in` of the crate offer: one function for both would take what is done at each order and at the letters as two closures of ten captures each.
 fn list_in(
     table: &Table,
     flags: &[u8; 16],

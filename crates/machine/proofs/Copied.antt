@@ -27,33 +27,6 @@ stored_more n l i h k =
     rw y (append_assoc (take i l) (get_or l i 0 ∷ []) (replicate (n - suc i) 0)) in
     a ∙ sym (ap (λ (j : ℕ). stored n (take j l)) (add-one i) ∙ ap (stored n) (take-suc l i 0 h) ∙ b)
 
--- the loop: the first i of the first `end` numbers are copied
-pub record Copied (n : ℕ) (l out : List ℕ) (end i : ℕ) : Type 0 where
-  pub is : out ≡ stored n (take i l)
-  pub inside : end ≤ length l
-  pub room : end ≤ n
-  pub within : i ≤ end
-
-pub copied-starts : (n : ℕ) (l : List ℕ) (end : ℕ) → end ≤ length l → end ≤ n → Copied n l (replicate n 0) end 0
-copied-starts n l end h k =
-    let z : n - 0 ≡ n = omega arith in
-    record { is = rw z; inside = h; room = k; within = omega arith }
-
-module _ {n : ℕ} {l out : List ℕ} {end i : ℕ} (a : Copied n l out end i) where
-  pub copied_more : i < end → Copied n l (set out i (get_or l i 0)) end (i + 1)
-  copied_more h = record {
-    is = rw a.is (stored_more n l i (omega arith) (omega arith));
-    inside = a.inside;
-    room = a.room;
-    within = omega arith;
-  }
-
-  pub copied-part : end ≤ i → out ≡ stored n (take end l)
-  copied-part h = let q : i ≡ end = omega arith in a.is ∙ rw q
-
-pub copied-whole : {n : ℕ} {l out : List ℕ} {i : ℕ} → Copied n l out (length l) i → length l ≤ i → out ≡ stored n l
-copied-whole {n} {l} {out} {i} a h = a.is ∙ ap (stored n) (take_all i l h)
-
 -- numbers copied over the front of an array of zeros
 pub copied_front : (n : ℕ) (l : List ℕ) {front all : List ℕ} → front ≡ l → all ≡ replicate n 0 → front ++ drop (length l) all ≡ stored n l
 copied_front n l e z = rw (e, z) (ap (λ (r : List ℕ). l ++ r) (drop-replicate (length l) n 0))

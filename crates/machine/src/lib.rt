@@ -41,6 +41,7 @@ pub struct State {
 
 // What a step answers: where `refusal` is 0, the slot, the activity and the message place (0 where none) of the step taken, and the end; where that is
 // handled or failed, the number of the fault that the root handled, or that went out of the root, and 0 where not.
+// Stays: (a) `RefusedStep` of laws/specs/Promises.antt and `of_step` of laws/specs/Starred.antt speak of its refusal as a number beside the rest.
 #[derive(Clone, Copy)]
 pub struct Step {
     pub refusal: u32,
@@ -52,6 +53,7 @@ pub struct Step {
 }
 
 // What loading bytes gives: the refusal and its place, or 0 and 0, and the state.
+// Stays: (a) `load_number` and `load_bytes` of boundary/specs/Engine.antt speak of the refusal and of the state that is given with it.
 #[derive(Clone, Copy)]
 pub struct Loaded {
     pub refusal: u32,
@@ -60,6 +62,7 @@ pub struct Loaded {
 }
 
 // What posting gives: the refusal or 0, and the state.
+// Stays: (a) `RefusedPost` of laws/specs/Promises.antt speaks of the refusal and of the state that is given back with it.
 #[derive(Clone, Copy)]
 pub struct Posted {
     pub refusal: u32,
@@ -67,6 +70,7 @@ pub struct Posted {
 }
 
 // What collecting gives: the refusal or 0, the message handed out (one with no values where it is refused), and the state.
+// Stays: (a) `RefusedCollect` and `RefusedDrop` of laws/specs/Promises.antt speak of the refusal and of the state that is given back with it.
 #[derive(Clone, Copy)]
 pub struct Collected {
     pub refusal: u32,

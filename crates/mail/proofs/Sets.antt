@@ -1,6 +1,6 @@
 -- What the proof of each function cites. Assumes nothing.
 use Rattle.machine.proofs.Called.{collect-limits, collect-planned, collect-unplanned, drop-planned, drop-unplanned, post-none, post-planned}
-use Rattle.machine.proofs.Copied.{copied-part, copied-starts, copied_more, trim-is}
+use Rattle.machine.proofs.Copied.{copied_front, trim-is}
 use Rattle.machine.proofs.Moved.{added_full, added_more, collect-handed, gap-copied, gap-filled, handed-none, handed-one, left_is, letter-there, limits-messages, limits-place, limits-waiting, partner-below, post-count, post-full, post-ruled-out, post-taken, seeking-found, seeking-none, seeking-on, seeking-starts, taken-beyond, taken-one, taken_none}
 
 pub ruleset collect = (collect-unplanned, collect-limits, collect-planned)
@@ -9,7 +9,7 @@ pub ruleset drop_at = (drop-unplanned, collect-limits, drop-planned)
 
 pub ruleset collect_by = (limits-waiting, limits-messages, collect-handed)
 
-pub ruleset first_values = (copied-starts, copied_more, copied-part)
+pub ruleset first_values = (copied_front)
 
 pub ruleset foreign_place = (seeking-starts, partner-below, seeking-none, seeking-found, seeking-on)
 

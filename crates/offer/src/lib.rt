@@ -22,6 +22,7 @@ pub struct Amount {
 }
 
 // How many steps are offered, and whether something is held; or a refusal.
+// Stays: (a) `offers_number` of boundary/specs/Engine.antt speaks of all three as numbers for C.
 #[derive(Clone, Copy)]
 pub struct Offered {
     pub refusal: u32,

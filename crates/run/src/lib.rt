@@ -14,6 +14,7 @@ use plan::Accepted;
 use plan::table::{LENGTH, Table};
 
 // What a run gives: the steps taken, the refusal or 0, the state and the tally.
+// Stays: (a) the contract of `moonhalyard_tell` speaks of the refusal and of the steps taken before it, and `run_bytes` of boundary/specs/Engine.antt of the state.
 #[derive(Clone, Copy)]
 pub struct Ran {
     pub taken: usize,

@@ -14,6 +14,7 @@ use plan::Accepted;
 use plan::table::{LENGTH, Table};
 
 // What a step gives: its answer, the state and the tally.
+// Stays: (a) `RefusedStep` of laws/specs/Promises.antt speaks of the state and the tally that are given back with a refusal.
 #[derive(Clone, Copy)]
 pub struct Stepped {
     pub answer: Step,
@@ -23,6 +24,7 @@ pub struct Stepped {
 
 // What a step changes: its answer, its order and the messages and the tally afterwards. Where it is refused, the messages and the tally are what they
 // were, and the order is none of the state's.
+// Stays: (a) the answer is the `Step` of `RefusedStep` of laws/specs/Promises.antt, and the messages and the tally are given back with a refusal too.
 #[derive(Clone, Copy)]
 pub struct Change {
     pub answer: Step,
@@ -33,6 +35,7 @@ pub struct Change {
 }
 
 // The answer of a step that is refused.
+// Stays: (d) the twin of `sight::counting::refused`, of a crate that this one does not name: a line in crates.txt for six fields is no plainer.
 fn refused(number: u32) -> Step
     ensures { result ≡ refusing number }
 {

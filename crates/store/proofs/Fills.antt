@@ -50,26 +50,6 @@ many_more f w n at i j k s h e g =
     let z : n - i ≡ suc (n - (i + 1)) = omega arith in
     rw (z, g, drop-drop w j s)
 
--- Bytes: i of n are taken.
-pub record Taking (n : ℕ) (s : List ℕ) (at : ℕ) (out : List ℕ) (i : ℕ) : Type 0 where
-  pub filling : Filling n out i (take (n - i) (drop (at + i) s)) (take n (drop at s))
-  pub room : at + n ≤ length s
-
-pub taking-starts : (s : List ℕ) (at : ℕ) (out : List ℕ) → at + length out ≤ length s → Taking (length out) s at out 0
-taking-starts s at out h =
-    let e : length out - 0 ≡ length out = omega arith in
-    record { filling = filling-starts _ out _ _ refl (bytes-long s at (length out) h) (rw (e, add-zero)); room = h }
-
-pub taking-more : {n : ℕ} {s : List ℕ} {at : ℕ} {out : List ℕ} {i : ℕ} → Taking n s at out i → i < length out
-    → Taking n s at (set out i (get_or s (at + i) 0)) (i + 1)
-taking-more {n} {s} {at} {out} {i} g h =
-    record { filling = filling-more g.filling (bytes-more s at n i g.room (omega (arith, g.filling.long))); room = g.room }
-
-pub taking-ends : {n : ℕ} {s : List ℕ} {at : ℕ} {out : List ℕ} {i : ℕ} → Taking n s at out i → length out ≤ i → out ≡ take n (drop at s)
-taking-ends {n} {s} {at} {out} {i} g h =
-    let e : n - i ≡ 0 = omega (arith, g.filling.long) in
-    filling-ends g.filling (rw e)
-
 -- Things of w bytes each: i of n are read.
 pub record Reading {A : Type 0} (f : List ℕ → A) (w n : ℕ) (s : List ℕ) (at : ℕ) (out : List A) (i : ℕ) : Type 0 where
   pub filling : Filling n out i (many_in f w (n - i) (drop (at + i * w) s)) (many_in f w n (drop at s))

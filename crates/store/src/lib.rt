@@ -13,6 +13,7 @@ use machine::made::{no_message, no_order};
 use machine::{Message, State, Tally};
 
 // What bytes hold: where `refused` is false, a state with its tally; else the state with no plan, with nothing counted.
+// Stays: (a) `state_of` of boundary/specs/Engine.antt speaks of the state of bytes that hold none: each call for C goes on with it.
 #[derive(Clone, Copy)]
 pub struct Kept {
     pub refused: bool,

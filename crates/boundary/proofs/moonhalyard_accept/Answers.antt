@@ -4,4 +4,4 @@ use Rattle.boundary.specs.Packed.{accept_number}
 use Rattle.boundary.proofs.moonhalyard_accept.Goals as goal
 
 pub returns : goal.returns
-returns c = c.number_of.ensures ∙ ap accept_number c.accept_over-a.ensures.is
+returns c = c.number_of.ensures ∙ ap accept_number c.accept_over.ensures.is

@@ -13,11 +13,10 @@ pub overflow_add-c : goal.overflow_add-c
 overflow_add-c c = omega (arith, c.loop-at-test.true, c.loop-at.invariant.0.near, c.loop-at.invariant.0.long, c.well_formed.1.1.1.1.1.1.1.1.1.1.1.1.1.1.1.1.0)
 
 pub loop-at-preserved : goal.loop-at-preserved
-loop-at-preserved c =
-    (
-      listens-again c.loop-at.invariant.0 (omega (arith, c.loop-at-test.true, c.loop-at.invariant.0.long)) (row-asks c.nothing_seen.ensures c.row_sight.ensures) (not-false _ c.if-not-p.false) c.pointer_number.ensures c.put.ensures,
-      omega (arith, c.loop-at-test.true)
-    )
+loop-at-preserved c = (
+  listens-again c.loop-at.invariant.0 (omega (arith, c.loop-at-test.true, c.loop-at.invariant.0.long)) (row-asks c.nothing_seen.ensures c.row_sight.ensures) (not-false _ c.if-not-p.false) c.pointer_number.ensures c.put.ensures,
+  omega (arith, c.loop-at-test.true),
+)
 
 pub returns-then-not-p : goal.returns-then-not-p
 returns-then-not-p c = listens-ends c.loop-at.invariant.0 (omega (arith, c.loop-at-test.true, c.loop-at.invariant.0.long)) (row-asks c.nothing_seen.ensures c.row_sight.ensures) (not-true _ c.if-not-p.true) c.lesser_of.ensures
