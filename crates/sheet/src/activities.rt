@@ -281,7 +281,7 @@ impl Reading<'_> {
     }
 
     // A raise, plain or with its number or name from `at` on.
-    fn raise(&mut self, at: usize) -> Result<Own, Mistake> {
+    fn raised(&mut self, at: usize) -> Result<Own, Mistake> {
         let s = self.bytes;
         if is_over(s, at) {
             return self.plain(at, kind::RAISE, Kind::Leaf);
@@ -323,7 +323,7 @@ impl Reading<'_> {
             }
             b"arm" => self.arm(p),
             b"empty" => self.plain(p, kind::EMPTY, Kind::Leaf),
-            b"raise" => self.raise(p),
+            b"raise" => self.raised(p),
             b"leave" => self.plain(p, kind::LEAVE, Kind::Leaf),
             b"sequence" => self.plain(p, kind::SEQUENCE, Kind::List),
             b"flow" => self.plain(p, kind::FLOW, Kind::List),
