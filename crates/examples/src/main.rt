@@ -66,6 +66,8 @@ impl Session {
     fn tried(&mut self, line: &[u8]) {
         let mark = line.iter().position(|b| *b == b'=').unwrap_or(line.len());
         self.desk.out = Out::standard(self.report.runtime());
+        // no example is written as text, so that there are no names
+        self.desk.names = [0u8; 16896];
         console::answer(&mut self.desk, first(line, mark), self.lines);
         if !agrees(
             self.desk.out.waiting(),

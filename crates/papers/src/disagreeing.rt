@@ -5,7 +5,7 @@ use super::writing::line_after;
 use drawing::Out;
 use plan::kind;
 
-// What a receive or an arm asks for.
+// What a receive or an arm asks for; a count of 0 in a row that only looks like one.
 #[derive(Clone, Copy, PartialEq, Eq)]
 struct Asked {
     partner: u32,
@@ -84,7 +84,7 @@ fn asked_in(text: &[u8], rows: &[u32; 87100], lines: &[u32; 4355], row: usize) -
 }
 
 fn disagrees(a: Asked, b: Asked) -> bool {
-    a.partner == b.partner && a.operation == b.operation && a.count != b.count
+    a.count != 0 && a.partner == b.partner && a.operation == b.operation && a.count != b.count
 }
 
 // The first row before this one that disagrees with it, and what it asks for.

@@ -14,11 +14,13 @@ pub begin_all-loop-i-init : goal.begin_all-loop-i-init
 begin_all-loop-i-init t c = (search rules, search cases)
 
 pub begin_all-loop-i-preserved : goal.begin_all-loop-i-preserved
-begin_all-loop-i-preserved t c = (search rules,
-    elim c.if-over.branch [
-      | begin_all-then-over w ↦ search (cases, rules)
-      | begin_all-else-over w ↦ search (cases, rules)
-    ])
+begin_all-loop-i-preserved t c = (
+  search rules,
+  elim c.if-over.branch [
+    | begin_all-then-over w ↦ search (cases, rules)
+    | begin_all-else-over w ↦ search (cases, rules)
+  ],
+)
 
 pub begin_all-returns : goal.begin_all-returns
 begin_all-returns t c = search cases
