@@ -1,6 +1,6 @@
 // What an activity is doing in an order, by the order's marks: one of those below, each with its words. (What each mark means:
 // crates/order/specs/State.antt.)
-use drawing::{Out, after, end_of, entry, has_undo, parent_of, undo_of, wide};
+use drawing::{Out, after, end_of, entry, has_undo, parent_of, undo_of};
 use order::Order;
 use plan::kind;
 use plan::table::{KIND, Table};
@@ -133,7 +133,7 @@ fn marked_of(mark: u8) -> usize {
 // An arm has no mark: it is open while its pick is active, and runs where its pick is inside one of its arms and what stands within this one runs. In
 // a stopped body the pick is idle, and its arm with it, though a scope within may run on.
 fn arm_of(table: &Table, marks: &[u8; 256], n: usize) -> usize {
-    let pick = mark_at(marks, parent_of(table, n));
+    let pick = mark_at(marks, parent_of(table, n).unwrap_or(n));
     if pick == 1 {
         return WAITING;
     }
@@ -187,7 +187,7 @@ fn idle_of(table: &Table, marks: &[u8; 256], root: u8, n: usize) -> usize {
     if n == 0 {
         return body_of(root);
     }
-    let parent = parent_of(table, n);
+    let parent = parent_of(table, n).unwrap_or(n);
     match entry(table, parent, KIND) {
         kind::SEQUENCE => in_sequence(table, marks, parent, n),
         kind::FLOW => in_flow(mark_at(marks, parent)),
@@ -203,7 +203,7 @@ pub fn scope_in(order: Order, i: usize) -> usize {
     if i < 32 {
         let remembered = order.remembered;
         let c = remembered[i];
-        return wide(c.scope);
+        return usize::from(c.scope);
     }
     0
 }
@@ -212,7 +212,7 @@ pub(crate) fn part_in(order: Order, i: usize) -> usize {
     if i < 32 {
         let remembered = order.remembered;
         let c = remembered[i];
-        return wide(c.part);
+        return usize::from(c.part);
     }
     0
 }
