@@ -14,35 +14,16 @@ fn raises(table: &Table, n: usize, number: u32) -> bool {
 
 // Whether a raise in the body of scope s has this number: one in a part of a scope there may go on out of it.
 fn is_raised(table: &Table, s: usize, number: u32) -> bool {
-    let stop = fault_of(table, s);
-    let mut n = after(s);
-    while n < stop {
-        if raises(table, n, number) {
-            return true;
-        }
-        n += 1;
-    }
-    false
+    (after(s)..fault_of(table, s)).any(|n| raises(table, n, number))
 }
 
 // Whether only a raise has this number: what an expression, a send and two receives for one thing fault with has others.
 fn is_of_raises(number: u32) -> bool {
-    if number == 0 {
-        return true;
-    }
-    15 < number
+    number == 0 || 15 < number
 }
 
 // Whether fault part i of scope s never runs.
 pub(crate) fn never_runs(table: &Table, s: usize, i: usize) -> bool {
-    if i < numbers_of(table, s) {
-        let number = number_at(table, s, i);
-        if is_of_raises(number) {
-            if is_raised(table, s, number) {
-                return false;
-            }
-            return true;
-        }
-    }
-    false
+    let number = number_at(table, s, i);
+    i < numbers_of(table, s) && is_of_raises(number) && !is_raised(table, s, number)
 }

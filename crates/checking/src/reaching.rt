@@ -1,18 +1,14 @@
 // Activities that can never run.
-use drawing::{after, code_of, end_of, entry, parent_of, value_of};
+use super::uses::form_of;
+use drawing::{after, end_of, entry, parent_of, value_of};
+use forms::Form;
 use plan::kind;
 use plan::table::{EXPRESSION, KIND, Table};
 
 // Whether the expression of activity n is a constant that is 0, or one that is not.
 fn goes_by(table: &Table, n: usize, zero: bool) -> bool {
     let m = entry(table, n, EXPRESSION) as usize;
-    if code_of(table, m) == 0 {
-        if zero {
-            return value_of(table, m) == 0;
-        }
-        return 0 < value_of(table, m);
-    }
-    false
+    form_of(table, m) == Form::Constant && (value_of(table, m) == 0) == zero
 }
 
 // Whether nothing runs behind activity n in its sequence: a raise, a leave, or a repeat that never ends.
@@ -24,16 +20,17 @@ fn is_last(table: &Table, n: usize) -> bool {
     }
 }
 
-// Of those that stand directly in activity `parent`, the one before n; `parent` where n is the first.
-fn before(table: &Table, parent: usize, n: usize) -> usize {
-    let mut found = parent;
+// Of those that stand directly in activity `parent`, the one before n, where there is one.
+fn before(table: &Table, parent: usize, n: usize) -> Option<usize> {
+    let mut found = None;
     let mut m = after(parent);
+    // Stays: (d) the place goes on from the end of one activity to the next, over all that is within it.
     while m < n {
         let end = end_of(table, m);
         if end <= m {
-            return parent;
+            return None;
         }
-        found = m;
+        found = Some(m);
         m = end;
     }
     found
@@ -41,13 +38,12 @@ fn before(table: &Table, parent: usize, n: usize) -> usize {
 
 // Whether activity n stands in a sequence behind one after which nothing runs.
 pub(crate) fn is_cut_off(table: &Table, n: usize) -> bool {
-    let parent = parent_of(table, n);
-    if parent < n {
-        if entry(table, parent, KIND) == kind::SEQUENCE {
-            return is_last(table, before(table, parent, n));
+    match parent_of(table, n) {
+        Some(parent) if entry(table, parent, KIND) == kind::SEQUENCE => {
+            before(table, parent, n).is_some_and(|m| is_last(table, m))
         }
+        _ => false,
     }
-    false
 }
 
 // Of a choose the first runs where the expression is not 0, the second where it is; what stands in a repeat, where it is not.
@@ -61,9 +57,5 @@ fn is_never_chosen(table: &Table, parent: usize, n: usize) -> bool {
 
 // Whether activity n stands in a choose or a repeat by a constant that never lets it run.
 pub(crate) fn is_passed_by(table: &Table, n: usize) -> bool {
-    let parent = parent_of(table, n);
-    if parent < n {
-        return is_never_chosen(table, parent, n);
-    }
-    false
+    parent_of(table, n).is_some_and(|parent| is_never_chosen(table, parent, n))
 }

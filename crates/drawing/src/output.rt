@@ -2,6 +2,7 @@
 //
 // An `Out` holds where it goes and how, too. So whatever puts words puts them into a page as well.
 use arrayvec::ArrayVec;
+use lettering::Sink;
 use std::fs::File;
 use std::io::{Error, Write};
 
@@ -165,9 +166,7 @@ impl Out {
     }
 
     pub fn put(&mut self, text: &[u8]) {
-        for b in text {
-            self.put_byte(*b);
-        }
+        Sink::put(self, text);
     }
 
     // The file that an `Out` is written to is on disk, or the reason why not.
@@ -185,35 +184,19 @@ impl Out {
         }
     }
 
-    // A number in decimal, which has 20 digits at most.
+    // A number in decimal.
     pub fn put_number(&mut self, number: u64) {
-        let mut digits = [0u8; 20];
-        let mut left = number;
-        for i in (0..20).rev() {
-            digits[i] = b'0' + (left % 10) as u8;
-            left /= 10;
-            if left == 0 {
-                self.put(&digits[i..]);
-                return;
-            }
-        }
+        Sink::put_number(self, number);
     }
 
     // A number with a blank in front.
     pub fn put_next(&mut self, number: u64) {
-        self.put_byte(b' ');
-        self.put_number(number);
+        Sink::put_next(self, number);
     }
 
     // A number below 1,000, with blanks in front up to three places.
     pub fn put_aligned(&mut self, number: u64) {
-        if number < 100 {
-            self.put_byte(b' ');
-        }
-        if number < 10 {
-            self.put_byte(b' ');
-        }
-        self.put_number(number);
+        Sink::put_aligned(self, number);
     }
 
     // A text with blanks behind it, up to 23 places.
@@ -254,6 +237,13 @@ impl Out {
         self.put_byte(b' ');
         self.put(reason);
         self.put_byte(b'\n');
+    }
+}
+
+// What the words of a plan are put into. (The methods of the same names are there for who has an `Out` and names no trait.)
+impl Sink for Out {
+    fn put_byte(&mut self, b: u8) {
+        Out::put_byte(self, b);
     }
 }
 

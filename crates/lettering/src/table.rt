@@ -2,80 +2,105 @@
 use plan::kind;
 use plan::table::{COUNT, END, FIRST_NUMBERS, KIND, OTHER_NUMBERS, Table, WIDTH};
 
-// An accepted plan: its table, and which of its variables are for correlation.
-#[derive(Clone, Copy, Drop)]
-pub(crate) struct Accepted<'a> {
-    pub(crate) table: &'a Table,
-    pub(crate) correlation: &'a [u8; 16],
+// Number `field` of row n.
+pub fn entry(table: &Table, n: usize, field: usize) -> u32 {
+    if n < 256 && field < WIDTH {
+        table[n * WIDTH + field]
+    } else {
+        0
+    }
 }
 
-// Where an activity stands: how many activities and arms stand around it, and the nearest of these, where there is one.
-#[derive(Clone, Copy, PartialEq, Eq, Debug, Drop)]
-pub(crate) struct Place {
-    pub(crate) depth: usize,
-    pub(crate) parent: Option<usize>,
+// The number after the last activity within activity n.
+pub fn end_of(table: &Table, n: usize) -> usize {
+    entry(table, n, END) as usize
 }
 
-// Whether an activity of this kind is a scope.
-pub(crate) fn is_scope(kind: u32) -> bool {
-    matches!(kind, kind::SCOPE | kind::OPEN_SCOPE | kind::NUMBERED_SCOPE)
+// The number after m, of an activity or a node.
+pub fn after(m: usize) -> usize {
+    if m < 4096 { m + 1 } else { m }
 }
 
-impl Accepted<'_> {
-    // Number `field` of row n.
-    pub(crate) fn entry(self, n: usize, field: usize) -> u32 {
-        if n < 256 && field < WIDTH {
-            self.table[n * WIDTH + field]
-        } else {
-            0
-        }
-    }
+// Whether activity n stands within activity m, which is before it.
+fn is_around(table: &Table, m: usize, n: usize) -> bool {
+    n < end_of(table, m)
+}
 
-    // How many fault parts by number scope s has: at most eight.
-    pub(crate) fn numbers_of(self, s: usize) -> usize {
-        if self.entry(s, KIND) != kind::NUMBERED_SCOPE {
-            return 0;
-        }
-        match self.entry(s, COUNT) {
-            count @ 0..=8 => count as usize,
-            _ => 0,
-        }
-    }
+// How many activities and arms stand around activity n.
+pub fn depth_of(table: &Table, n: usize) -> usize {
+    (0..n).filter(|m| is_around(table, *m, n)).count()
+}
 
-    // The number of fault part i of scope s, counted from 0.
-    pub(crate) fn number_at(self, s: usize, i: usize) -> u32 {
-        match i {
-            0 | 1 => self.entry(s, FIRST_NUMBERS + i),
-            2..=7 => self.entry(s, OTHER_NUMBERS + i - 2),
-            _ => 0,
-        }
-    }
+// The nearest activity or arm around activity n, where there is one.
+pub fn parent_of(table: &Table, n: usize) -> Option<usize> {
+    (0..n).rfind(|m| is_around(table, *m, n))
+}
 
-    pub(crate) fn is_correlation(self, number: u32) -> bool {
-        number < 16 && self.correlation[number as usize] == 1
-    }
+// The nearest scope around activity n, where there is one; else the root is nearest.
+pub fn scope_of(table: &Table, n: usize) -> Option<usize> {
+    (0..n).rfind(|m| is_scope(entry(table, *m, KIND)) && is_around(table, *m, n))
+}
 
-    // Whether activity n stands within activity m, which is before it.
-    fn is_around(self, m: usize, n: usize) -> bool {
-        n < self.entry(m, END) as usize
+// Of those directly within activity `parent`, how many stand before activity n.
+pub(crate) fn order_of(table: &Table, parent: usize, n: usize) -> usize {
+    let mut order = 0;
+    let mut m = parent.saturating_add(1);
+    // Stays: (d) the place goes on from the end of one activity to the next, over all that is within it.
+    while m < n {
+        m = (m + 1).max(end_of(table, m));
+        order += 1;
     }
+    order
+}
 
-    pub(crate) fn place_of(self, n: usize) -> Place {
-        Place {
-            depth: (0..n).filter(|m| self.is_around(*m, n)).count(),
-            parent: (0..n).rfind(|m| self.is_around(*m, n)),
-        }
-    }
+// Whether an activity of this kind is a scope: with an undo part, or without.
+pub fn is_scope(kind: u32) -> bool {
+    kind == kind::OPEN_SCOPE || has_undo(kind)
+}
 
-    // Of those directly within activity `parent`, how many stand before activity n.
-    pub(crate) fn order_of(self, parent: usize, n: usize) -> usize {
-        let mut order = 0;
-        let mut m = parent.saturating_add(1);
-        // Stays: (d) the place goes on from the end of one activity to the next, over all that is within it.
-        while m < n {
-            m = (m + 1).max(self.entry(m, END) as usize);
-            order += 1;
-        }
-        order
+// Whether an activity of this kind is a scope with an undo part.
+pub fn has_undo(kind: u32) -> bool {
+    matches!(kind, kind::SCOPE | kind::NUMBERED_SCOPE)
+}
+
+// How many fault parts by number scope s has: at most eight.
+pub fn numbers_of(table: &Table, s: usize) -> usize {
+    if entry(table, s, KIND) != kind::NUMBERED_SCOPE {
+        return 0;
     }
+    match entry(table, s, COUNT) {
+        count @ 0..=8 => count as usize,
+        _ => 0,
+    }
+}
+
+// The number of fault part i of scope s, counted from 0.
+pub fn number_at(table: &Table, s: usize, i: usize) -> u32 {
+    match i {
+        0 | 1 => entry(table, s, FIRST_NUMBERS + i),
+        2..=7 => entry(table, s, OTHER_NUMBERS + i - 2),
+        _ => 0,
+    }
+}
+
+// The first fault part of scope s, which stands after its body; the general one, after those by number; and the undo part, after that.
+pub fn fault_of(table: &Table, s: usize) -> usize {
+    end_of(table, after(s))
+}
+
+pub fn general_of(table: &Table, s: usize) -> usize {
+    let mut at = fault_of(table, s);
+    for _ in 0..numbers_of(table, s) {
+        at = end_of(table, at);
+    }
+    at
+}
+
+pub fn undo_of(table: &Table, s: usize) -> usize {
+    end_of(table, general_of(table, s))
+}
+
+// How many scopes stand before activity n.
+pub(crate) fn scopes_before(table: &Table, n: usize) -> usize {
+    (0..n).filter(|m| is_scope(entry(table, *m, KIND))).count()
 }

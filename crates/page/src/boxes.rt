@@ -1,6 +1,6 @@
 // An order on the drawing of its plan, as boxes within boxes: what runs is marked, and so is what would be undone.
 use super::sizes;
-use drawing::{Out, put_labelled};
+use drawing::{Out, Plan, put_labelled};
 use order::Order;
 use plan::table::Table;
 use wording::doing::{self, Doing};
@@ -65,7 +65,12 @@ fn put_state(out: &mut Out, doing: Doing, order: Order, n: usize) {
 fn put_label(out: &mut Out, names: &[u8; 16896], table: &Table, flags: &[u8; 16], n: usize) {
     out.put_number(n as u64);
     out.put(b"  ");
-    put_labelled(out, names, table, flags, n);
+    let plan = Plan {
+        names,
+        table,
+        correlation: flags,
+    };
+    put_labelled(out, plan, n);
 }
 
 fn put_attribute(out: &mut Out, front: &[u8], value: usize) {

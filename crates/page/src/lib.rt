@@ -10,7 +10,7 @@ mod orders;
 mod sizes;
 
 use boxes::put_boxes;
-use drawing::{Out, put_drawing, put_names};
+use drawing::{Out, Plan, put_drawing, put_names};
 use machine::{State, Tally};
 use plan::Accepted;
 use plan::table::{LENGTH, Table};
@@ -78,7 +78,12 @@ fn put_plan(
     put_idle_plan(out, names, table, flags, activities, state);
     out.put_markup(b"<details>\n<summary>The plan as text</summary>\n<pre>");
     put_names(out, names, flags, variables);
-    put_drawing(out, names, table, flags, activities);
+    let plan = Plan {
+        names,
+        table,
+        correlation: flags,
+    };
+    put_drawing(out, plan, activities);
     out.put_markup(b"</pre>\n</details>\n</section>\n");
 }
 

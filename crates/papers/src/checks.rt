@@ -1,7 +1,7 @@
 // What may be wrong with the last plan, by the crate checking: the command check, and the warnings alone, for what follows a plan that is taken.
 use super::{Desk, first};
 use checking::{put_check, put_warnings};
-use drawing::Out;
+use drawing::{Out, Plan};
 use plan::table::{LENGTH, Table};
 use plan::{Accepted, Refusal};
 
@@ -20,10 +20,15 @@ fn put_accepted(
     asked: bool,
     out: &mut Out,
 ) {
+    let plan = Plan {
+        names,
+        table,
+        correlation,
+    };
     if asked {
-        put_check(out, names, table, correlation, activities);
+        put_check(out, plan, activities);
     } else {
-        put_warnings(out, names, table, correlation, activities);
+        put_warnings(out, plan, activities);
     }
 }
 

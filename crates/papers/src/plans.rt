@@ -1,7 +1,7 @@
 // The commands on plans: plan, show, draw and names. The last plan is the first `plan` bytes of `bytes`, accepted or refused.
 use super::writing::forget;
 use super::{Desk, first};
-use drawing::{Out, put_drawing, put_names};
+use drawing::{Out, Plan, put_drawing, put_names};
 use plan::table::{LENGTH, Table};
 use plan::{Accepted, Refusal};
 use text::HexError;
@@ -29,7 +29,12 @@ fn put_accepted(
 ) {
     put_names(out, names, correlation, variables);
     if drawn {
-        put_drawing(out, names, table, correlation, activities);
+        let plan = Plan {
+            names,
+            table,
+            correlation,
+        };
+        put_drawing(out, plan, activities);
     } else {
         out.put_byte(b'\n');
     }

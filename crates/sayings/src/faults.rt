@@ -2,25 +2,21 @@
 use drawing::{Out, number_at, numbers_of, put_fault_name, put_scope};
 use plan::table::Table;
 
-// What a fault that no raise with a number makes is called.
-fn put_own(out: &mut Out, fault: u8) {
-    match fault {
-        0 => out.put(b"a plain raise"),
-        1 => out.put(b"unbound variable"),
-        2 => out.put(b"sum too large"),
-        3 => out.put(b"difference below zero"),
-        4 => out.put(b"conflicting receive"),
-        5 => out.put(b"no such partner"),
-        _ => out.put(b"a fault"),
-    }
-}
+// What the faults 0 to 5, which no raise with a number makes, are called.
+static OWN: [&[u8]; 6] = [
+    b"a plain raise",
+    b"unbound variable",
+    b"sum too large",
+    b"difference below zero",
+    b"conflicting receive",
+    b"no such partner",
+];
 
 // What the fault with this number is called; a raise with a number by the name that it may have.
 pub fn put_fault(out: &mut Out, names: &[u8; 16896], fault: u8) {
-    if fault < 6 {
-        put_own(out, fault);
-    } else {
-        put_fault_name(out, names, b"fault ", fault as u32);
+    match OWN.get(usize::from(fault)) {
+        Some(own) => out.put(own),
+        None => put_fault_name(out, names, b"fault ", u32::from(fault)),
     }
 }
 
@@ -32,23 +28,17 @@ pub fn put_by_fault(out: &mut Out, names: &[u8; 16896], fault: u8) {
 
 // Whether a scope with this mark has faulted: it waits for its inner scopes, undoes, or runs its fault part, whichever it has chosen.
 pub fn has_faulted(mark: u8) -> bool {
-    match mark % 16 {
-        4..=6 => true,
-        _ => false,
-    }
-}
-
-fn narrow(number: u32) -> u8 {
-    if number < 256 {
-        return number as u8;
-    }
-    0
+    matches!(mark % 16, 4..=6)
 }
 
 // The fault that fault part i of scope n, counted from 1, is for.
 fn put_by_part(out: &mut Out, names: &[u8; 16896], table: &Table, n: usize, i: usize) {
     if 0 < i && i <= numbers_of(table, n) {
-        put_by_fault(out, names, narrow(number_at(table, n, i - 1)));
+        put_by_fault(
+            out,
+            names,
+            u8::try_from(number_at(table, n, i - 1)).unwrap_or(0),
+        );
     }
 }
 
@@ -58,7 +48,7 @@ fn put_by_choice(out: &mut Out, names: &[u8; 16896], table: &Table, n: usize, ch
     match choice {
         9..=14 => put_by_fault(out, names, choice - 9),
         15 => out.put(b": a number that it has no fault part for"),
-        _ => put_by_part(out, names, table, n, choice as usize),
+        _ => put_by_part(out, names, table, n, usize::from(choice)),
     }
 }
 
@@ -69,20 +59,13 @@ pub fn put_scope_faulted(out: &mut Out, names: &[u8; 16896], table: &Table, n: u
     put_by_choice(out, names, table, n, mark / 16);
 }
 
-fn put_row(out: &mut Out, fault: u8) {
-    out.put_aligned(fault as u64);
-    out.put(b"  ");
-    put_own(out, fault);
-    out.put_byte(b'\n');
-}
-
 // All of them, a line for each, and a blank line.
 pub fn put_faults(out: &mut Out) {
-    put_row(out, 0);
-    put_row(out, 1);
-    put_row(out, 2);
-    put_row(out, 3);
-    put_row(out, 4);
-    put_row(out, 5);
+    for (fault, own) in OWN.iter().enumerate() {
+        out.put_aligned(fault as u64);
+        out.put(b"  ");
+        out.put(own);
+        out.put_byte(b'\n');
+    }
     out.put(b" 16 to 255  a raise with this number: fault 16 to fault 255\n\n");
 }

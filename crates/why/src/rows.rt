@@ -1,7 +1,7 @@
 // What an order does and waits for, a line for each activity that awaits its step.
 use super::holding::is_held;
 use super::near::put_near;
-use drawing::{Out, entry, is_scope, put_activity, put_scope};
+use drawing::{Out, Plan, entry, is_scope, put_activity, put_scope};
 use machine::State;
 use order::{Order, fault};
 use plan::kind;
@@ -69,20 +69,21 @@ fn put_send(
 }
 
 // Row k and its rival, by their numbers.
-fn put_rivals(out: &mut Out, k: usize, rival: usize) {
-    out.put(b"; activities");
-    out.put_next(rival as u64);
-    out.put(b" and");
-    out.put_next(k as u64);
-    out.put(b" are for the same thing");
+fn put_rivals(out: &mut Out, table: &Table, k: usize) {
+    if let Some(rival) = checking::rival_of(table, k) {
+        out.put(b"; activities");
+        out.put_next(rival as u64);
+        out.put(b" and");
+        out.put_next(k as u64);
+        out.put(b" are for the same thing");
+    }
 }
 
 // Of a conflicting receive, the first two that are for one thing and may have made the root fault.
 fn put_conflict(out: &mut Out, table: &Table, cause: u8) {
     if cause == fault::CONFLICTING_RECEIVE {
-        let k = checking::contested_in(table, 256);
-        if k <= 255 {
-            put_rivals(out, k, checking::rival_of(table, k));
+        if let Some(k) = checking::contested_in(table, None) {
+            put_rivals(out, table, k);
         }
     }
 }
@@ -114,9 +115,8 @@ fn may_be_contested(choice: u8) -> bool {
 // Where the mark of a scope says that two receives were open for one thing, or does not say what it was, the first two in scope n for which that may be.
 fn put_contested(out: &mut Out, table: &Table, n: usize, choice: u8) {
     if may_be_contested(choice) {
-        let k = checking::contested_in(table, n);
-        if k <= 255 {
-            put_rivals(out, k, checking::rival_of(table, k));
+        if let Some(k) = checking::contested_in(table, Some(n)) {
+            put_rivals(out, table, k);
         }
     }
 }
@@ -143,7 +143,12 @@ fn put_close(out: &mut Out, names: &[u8; 16896], table: &Table, n: usize, held: 
 
 fn put_ready(out: &mut Out, names: &[u8; 16896], table: &Table, flags: &[u8; 16], n: usize) {
     out.put(b"  is to ");
-    put_activity(out, names, table, flags, n);
+    let plan = Plan {
+        names,
+        table,
+        correlation: flags,
+    };
+    put_activity(out, plan, n);
     put_place(out, n);
     out.put_byte(b'\n');
 }

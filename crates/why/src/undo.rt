@@ -1,5 +1,5 @@
 // What would be undone if what it is remembered for faulted now: the closings of an order, the latest first, and what each would send.
-use drawing::{Out, end_of, entry, put_scope, undo_of, wide};
+use drawing::{Out, end_of, entry, put_scope, undo_of};
 use order::Order;
 use plan::kind;
 use plan::table::{KIND, Table};
@@ -85,7 +85,15 @@ pub fn put_undone(
     if i < 32 && i < order.kept {
         let remembered = order.remembered;
         let c = remembered[i];
-        put_closing(out, names, table, flags, wide(c.scope), wide(c.part), order);
+        put_closing(
+            out,
+            names,
+            table,
+            flags,
+            usize::from(c.scope),
+            usize::from(c.part),
+            order,
+        );
     }
 }
 

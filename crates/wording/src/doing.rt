@@ -101,7 +101,7 @@ fn marked_of(mark: u8) -> Doing {
 // An arm has no mark: it is open while its pick is active, and runs where its pick is inside one of its arms and what stands within this one runs. In
 // a stopped body the pick is idle, and its arm with it, though a scope within may run on.
 fn arm_of(table: &Table, marks: &[u8; 256], n: usize) -> Doing {
-    match mark_at(marks, parent_of(table, n)) {
+    match mark_at(marks, parent_of(table, n).unwrap_or(n)) {
         1 => Doing::Waiting,
         2 if is_running(marks, n, end_of(table, n)) => Doing::Running,
         _ => Doing::Idle,
@@ -141,7 +141,7 @@ fn idle_of(table: &Table, marks: &[u8; 256], root: u8, n: usize) -> Doing {
     if n == 0 {
         return body_of(root);
     }
-    let parent = parent_of(table, n);
+    let parent = parent_of(table, n).unwrap_or(n);
     match entry(table, parent, KIND) {
         kind::SEQUENCE => in_sequence(table, marks, parent, n),
         kind::FLOW => in_flow(mark_at(marks, parent)),

@@ -1,7 +1,7 @@
 // What is offered: as numbers, and in words.
 use super::holding::put_full;
 use super::messages::put_taken;
-use drawing::{Out, entry, is_scope, put_activity};
+use drawing::{Out, Plan, entry, is_scope, put_activity};
 use machine::{Message, State};
 use offer::Offered;
 use order::Order;
@@ -106,7 +106,12 @@ fn put_what(out: &mut Out, names: &[u8; 16896], table: &Table, flags: &[u8; 16],
     if is_scope(entry(table, n, KIND)) {
         out.put(b"close ");
     }
-    put_activity(out, names, table, flags, n);
+    let plan = Plan {
+        names,
+        table,
+        correlation: flags,
+    };
+    put_activity(out, plan, n);
 }
 
 // The message that a step takes, if it takes one.

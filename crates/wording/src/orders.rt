@@ -1,6 +1,6 @@
 // The live orders in words, and one order on the drawing of its plan.
 use super::doing::{doing_of, part_in, put_doing, scope_in};
-use drawing::{Out, put_drawn, put_member, put_scope};
+use drawing::{Out, Plan, put_drawn, put_member, put_scope};
 use machine::State;
 use order::Order;
 use plan::Accepted;
@@ -218,7 +218,12 @@ fn put_doing_line(
     out.put_aligned(n as u64);
     out.put(b"  ");
     put_doing(out, true, doing_of(table, order, n));
-    put_drawn(out, names, table, correlation, n);
+    let plan = Plan {
+        names,
+        table,
+        correlation,
+    };
+    put_drawn(out, plan, n);
 }
 
 fn put_doing_lines(

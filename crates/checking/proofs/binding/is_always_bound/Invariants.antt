@@ -1,9 +1,0 @@
--- `checking::binding::is_always_bound` is safe and ends. Assumes nothing.
-use Prim.Native.Nat.{◌-◌}
-use Rattle.checking.proofs.binding.is_always_bound.Given as goal
-
-abbrev pub invariant-loop-m : goal.invariant-loop-m
-invariant-loop-m l = Unit {0}
-
-abbrev pub decreases-loop-m : goal.decreases-loop-m
-decreases-loop-m l = 256 - l.m

@@ -1,9 +1,0 @@
--- `checking::rivals::faults_undoing` is safe and ends. Assumes nothing.
-
-use Rattle.checking.proofs.rivals.faults_undoing.Given as goal
-
-abbrev pub invariant-loop-left : goal.invariant-loop-left
-invariant-loop-left l = Unit {0}
-
-abbrev pub decreases-loop-left : goal.decreases-loop-left
-decreases-loop-left l = l.left

@@ -1,9 +1,0 @@
--- `checking::uses::is_used_within` is safe and ends. Assumes nothing.
-use Prim.Native.Nat.{◌-◌}
-use Rattle.checking.proofs.uses.is_used_within.Given as goal
-
-abbrev pub invariant-loop-n : goal.invariant-loop-n
-invariant-loop-n l = Unit {0}
-
-abbrev pub decreases-loop-n : goal.decreases-loop-n
-decreases-loop-n l = l.to - l.n
