@@ -160,19 +160,15 @@ pub fn read_some(file: &File, bytes: &mut [u8]) -> Result<usize, i32>
 }
 
 // Reads until the bytes are full, the file ends or a read fails: how many bytes.
+// Stays: (d) a `while`, since how far one read comes is not known before it.
 pub fn read_full(file: &File, bytes: &mut [u8]) -> usize
     ensures { result ≤ length bytes.new }
 {
     let mut done = 0;
     while done < bytes.len() {
         match read_some(file, &mut bytes[done..]) {
-            Ok(n) => {
-                if n == 0 {
-                    return done;
-                }
-                done += n;
-            }
-            Err(_) => return done,
+            Ok(0) | Err(_) => return done,
+            Ok(n) => done += n,
         }
     }
     done
