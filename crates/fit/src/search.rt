@@ -126,16 +126,18 @@ pub fn first_receiver(
 ) -> Option<Receiver>
     ensures { Receives table.now flags.now picks.now orders activities letters.now j result }
 {
-    for slot in 0..16 {
+    let mut found = None;
+    'search: for slot in 0..16 {
         let order = orders[slot];
         let marks = order.marks;
         let known = known_of(flags, order);
         let rows = rows_of(order, activities);
         for k in 0..rows {
             if takes_at(table, picks, &marks, &known, k, letters, j) {
-                return Some(Receiver { slot, activity: k });
+                found = Some(Receiver { slot, activity: k });
+                break 'search;
             }
         }
     }
-    None
+    found
 }
