@@ -71,6 +71,7 @@ pub(crate) fn put_scope_name<S: Sink>(
     }
 }
 
+// Whether a variable with this number is for correlation.
 pub fn is_correlation(correlation: &[u8; 16], number: u32) -> bool {
     number < 16 && correlation[number as usize] == 1
 }

@@ -17,6 +17,7 @@ pub fn end_of(table: &Table, n: usize) -> usize {
 }
 
 // The number after m, of an activity or a node.
+// Stays: (d) the library's `saturating_add` goes on where no number of a table follows.
 pub fn after(m: usize) -> usize {
     if m < 4096 { m + 1 } else { m }
 }
