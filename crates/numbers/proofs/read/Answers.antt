@@ -84,8 +84,12 @@ returns-in_default c = short c.loop-i.invariant c.loop-i-test.true (omega (arith
 pub returns-then-sum-gt4294967295 : goal.returns-then-sum-gt4294967295
 returns-then-sum-gt4294967295 c =
     let h = c.in-Some.ensures.lookup in
-    let e = c.from-b.ensures ∙ h.3.1 0 in
-    grind (arith, large c.loop-i.invariant c.loop-i-test.true h.3.0 e, padded c.loop-i.invariant c.loop-i-test.true h.3.0 e)
+    large c.loop-i.invariant c.loop-i-test.true h.3.0 (c.from-b.ensures ∙ h.3.1 0) c.if-sum-gt4294967295.true
+
+pub returns-then-i-gt0 : goal.returns-then-i-gt0
+returns-then-i-gt0 c =
+    let h = c.in-Some.ensures.lookup in
+    padded c.loop-i.invariant c.loop-i-test.true h.3.0 (c.from-b.ensures ∙ h.3.1 0) (omega arith) c.if-b-eq0.true c.if-i-gt0.true
 
 pub returns-then-b-lt128 : goal.returns-then-b-lt128
 returns-then-b-lt128 c =
