@@ -47,15 +47,18 @@ fn variables_at(s: &[u8], at: usize, count: u32, vars: u32, once: bool) -> Resul
     ensures { result ≡ tuple_of (variables_in vars once s.now count [] at) }
 {
     let mut variables = [0u32; 4];
+    let mut seen = [0u8; 16];
     let mut next = at;
     for i in 0..count as usize {
         let f = field_at(s, next, 0, vars)?;
-        if once && variables[..i].contains(&f.value) {
+        let v = f.value as usize;
+        if once && seen[v] == 1 {
             return Err(Refusal {
                 number: 5,
                 place: next,
             });
         }
+        seen[v] = 1;
         variables[i] = f.value;
         next = f.next;
     }
