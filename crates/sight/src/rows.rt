@@ -88,20 +88,19 @@ fn take_letter(
     letters: &[u32; 512],
     j: usize,
     least: usize,
-    s: Sight,
-) -> Sight
+    s: &mut Sight,
+)
     requires { (k < 256) × (j < 64) }
-    ensures { TakesLetter table.now slot k asked.now unchecked letters.now j least s result }
+    ensures { TakesLetter table.now slot k asked.now unchecked letters.now j least s.old s.new }
 {
     if unchecked <= least && fits_at(table, k, asked, letters, j) {
-        shown(s, slot, k, j)
-    } else {
-        s
+        *s = shown(*s, slot, k, j);
     }
 }
 
-// What the messages add at the receive or arm in row k.
+// What the messages add at the receive or arm in row k. Not put in line with what else a row may do: the loop over the messages, which an offer spends half its time in, would then lack registers.
 #[tactic(auto, using(crate::proofs::Sets::take_row))]
+#[inline(never)]
 fn take_row(
     table: &Table,
     known: &[u64; 16],
@@ -119,7 +118,9 @@ fn take_row(
     let unchecked = unchecked_at(table, k, &asked);
     let mut c = s;
     for j in 0..waiting {
-        c = take_letter(table, slot, k, &asked, unchecked, letters, j, least[j], c);
+        take_letter(
+            table, slot, k, &asked, unchecked, letters, j, least[j], &mut c,
+        );
     }
     c
 }
