@@ -203,3 +203,18 @@ second_is s e f = rw (← e) f
 
 pub first-is : (s : List ℕ) {m o : List ℕ} → m ≡ renewed s → o ≡ with_replies (with_causes m) → o ≡ with_replies (with_causes (renewed s))
 first-is s e f = rw (← e) f
+
+-- `copy`: i bytes are copied
+pub record Same (s out : List ℕ) (i : ℕ) : Type 0 where
+  pub filling : Filling 12748 out i (drop i s) s
+  pub long : length s ≡ 12748
+
+pub same-starts : (s out : List ℕ) → length s ≡ 12748 → length out ≡ 12748 → Same s out 0
+same-starts s out e f = record { filling = filling-starts 12748 out s s f e refl; long = e }
+
+module _ {s out : List ℕ} {i : ℕ} (w : Same s out i) where
+  pub same-again : i < 12748 → Same s (set out i (get_or s i 0)) (i + 1)
+  same-again h = record { filling = filling-more w.filling (rw (add-one, drop-cons s i 0 (omega (arith, w.long)))); long = w.long }
+
+  pub same-done : 12748 ≤ i → out ≡ s
+  same-done h = let k : length s ≤ i = omega (arith, w.long) in filling-ends w.filling (drop_of_length-le s k)

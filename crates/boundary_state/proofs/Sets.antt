@@ -1,5 +1,5 @@
 -- What the proof of each function cites. Assumes nothing.
-use Rattle.boundary_state.proofs.Renewing.{end-there, end_none, around-again, around-done, around-found, around-other, around-scope, around-starts, byte-part, byte-scope, cause-before, cause-none, marked-long, marked-not, placing-again, placing-done, placing-starts, reply-before, reply-none}
+use Rattle.boundary_state.proofs.Renewing.{end-there, end_none, around-again, around-done, around-found, around-other, around-scope, around-starts, byte-part, byte-scope, cause-before, cause-none, marked-long, marked-not, placing-again, placing-done, placing-starts, reply-before, reply-none, same-again, same-done, same-starts}
 
 pub ruleset cause = (placing-starts, placing-again, placing-done)
 
@@ -20,3 +20,5 @@ pub ruleset reply = (placing-starts, placing-again, placing-done)
 pub ruleset reply_byte = (reply-before, reply-none)
 
 pub ruleset plan_end = (end-there, end_none)
+
+pub ruleset copy = (same-starts, same-again, same-done)
