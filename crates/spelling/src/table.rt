@@ -73,7 +73,10 @@ impl Table<'_> {
     pub(crate) fn insert(&mut self, s: usize, r: usize, code: u32) -> usize {
         self.begin(r);
         if s <= r && r < self.rows.len() {
-            self.rows.copy_within(s..r, s + 1);
+            // Stays: (a) by `copy_within` the archive for C would need `memmove` from outside.
+            for i in (s..r).rev() {
+                self.rows[i + 1] = self.rows[i];
+            }
         }
         self.begin(s);
         self.add(s, code);
