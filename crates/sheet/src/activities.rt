@@ -44,11 +44,9 @@ fn unended(s: &[u8], at: usize) -> Mistake {
 // How many variables a tuple has, up to 100: one more than it has commas.
 fn members(s: &[u8], at: usize) -> u32 {
     let mut n: u32 = 1;
-    for b in s
-        .iter()
-        .skip(at)
-        .take_while(|b| !matches!(**b, b'\n' | b'#'))
-    {
+    // From the place on, and not `skip`, which goes over all before it.
+    let rest = s.get(at..).unwrap_or(&[]);
+    for b in rest.iter().take_while(|b| !matches!(**b, b'\n' | b'#')) {
         if *b == b',' && n < 100 {
             n += 1;
         }
