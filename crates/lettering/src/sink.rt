@@ -19,6 +19,10 @@ pub trait Sink {
 
     // A number in decimal, which has 20 digits at most.
     fn put_number(&mut self, number: u64) {
+        if number < 10 {
+            self.put_byte(b'0' + number as u8);
+            return;
+        }
         let mut digits = [0u8; 20];
         let mut left = number;
         for i in (0..20).rev() {
