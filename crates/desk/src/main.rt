@@ -10,20 +10,25 @@ use papers::{Desk, Said};
 use phrases::What;
 use std::io::Read;
 
-// The console; the text of a plan that comes in, where one does; the number of lines ended so far; the present line, as far as it is kept, and how many
-// bytes of it are; whether each line is repeated before its answer, whether an error ends the session, and whether who types is asked for the next line;
-// and whether input may follow.
+// The console; the text of a plan that comes in, where one does; the number of lines ended so far; whether each line is repeated before its answer,
+// whether an error ends the session, and whether who types is asked for the next line; and whether input may follow.
 #[derive(Drop)]
 struct Session {
     desk: Desk,
     incoming: Option<Incoming>,
     lines: u64,
-    line: [u8; 16002],
-    length: usize,
     echo: bool,
     strict: bool,
     asking: bool,
     open: bool,
+}
+
+// The session, and the present line, as far as it is kept, and how many bytes of it are.
+#[derive(Drop)]
+struct Input {
+    session: Session,
+    line: [u8; 16002],
+    length: usize,
 }
 
 // Whether the lines that follow a line are a text.
@@ -129,30 +134,17 @@ impl Session {
         }
     }
 
-    // The present line has ended.
-    fn ended(&mut self) {
+    // A line has ended, of which so much is kept.
+    fn ended(&mut self, kept: &[u8]) {
         if !self.open {
             return;
         }
-        let line = self.line;
-        let kept = first(&line, self.length);
         self.lines = self.lines.saturating_add(1);
-        self.length = 0;
         match text::line_of(kept) {
             Some(length) => self.taken(first(kept, length)),
             None => self.too_long(),
         }
         self.gone_on();
-    }
-
-    // What was read, line by line.
-    fn feed(&mut self, chunk: &[u8]) {
-        for b in chunk {
-            match *b {
-                b'\n' => self.ended(),
-                other => self.length = text::keep(&mut self.line, self.length, other),
-            }
-        }
     }
 
     // What is not saved at the end of the input is told, where the desk speaks to a person.
@@ -163,11 +155,8 @@ impl Session {
         }
     }
 
-    // At the end of the input a last line may have no line end, and a text no blank line.
+    // At the end of the input a text may have no blank line.
     fn closed(&mut self) {
-        if 0 < self.length {
-            self.ended();
-        }
         self.written();
         self.open = false;
         self.warned();
@@ -180,17 +169,6 @@ impl Session {
         self.incoming = None;
         self.open = false;
         words::stopped(self.desk.out.runtime(), b"the input cannot be read\n");
-    }
-
-    // Reads once, and answers each line that ends in what was read.
-    fn turn(&mut self) {
-        let mut chunk = [0u8; 4096];
-        let mut stdin = self.desk.out.runtime().stdin();
-        match stdin.read(&mut chunk) {
-            Ok(0) => self.closed(),
-            Ok(n) => self.feed(&chunk[..n]),
-            Err(_) => self.failed(),
-        }
     }
 
     // Writes what waits.
@@ -209,21 +187,6 @@ impl Session {
         }
     }
 
-    // All of the input. Who types the commands sees each answer at once.
-    fn run(&mut self) {
-        self.asked();
-        self.flushed();
-        // nothing says that the input ends, so the turns are counted up to a number that no run uses up
-        for _ in 0..u64::MAX {
-            if !self.open {
-                return;
-            }
-            self.turn();
-            self.asked();
-            self.flushed();
-        }
-    }
-
     // Why the session ended before its input did, where it did, on standard error: so a script that runs the desk knows.
     fn told(&self) {
         let runtime = self.desk.out.runtime();
@@ -231,6 +194,58 @@ impl Session {
             words::stopped(runtime, b"an answer could not be written\n");
         } else if self.strict && self.desk.said == Said::Error {
             words::stopped(runtime, b"the last line is an error\n");
+        }
+    }
+}
+
+impl Input {
+    // The present line has ended.
+    fn ended(&mut self) {
+        self.session.ended(first(&self.line, self.length));
+        self.length = 0;
+    }
+
+    // What was read, line by line.
+    fn feed(&mut self, chunk: &[u8]) {
+        for b in chunk {
+            match *b {
+                b'\n' => self.ended(),
+                other => self.length = text::keep(&mut self.line, self.length, other),
+            }
+        }
+    }
+
+    // At the end of the input a last line may have no line end.
+    fn closed(&mut self) {
+        if 0 < self.length {
+            self.ended();
+        }
+        self.session.closed();
+    }
+
+    // Reads once, and answers each line that ends in what was read.
+    fn turn(&mut self) {
+        let mut chunk = [0u8; 4096];
+        let mut stdin = self.session.desk.out.runtime().stdin();
+        match stdin.read(&mut chunk) {
+            Ok(0) => self.closed(),
+            Ok(n) => self.feed(&chunk[..n]),
+            Err(_) => self.session.failed(),
+        }
+    }
+
+    // All of the input. Who types the commands sees each answer at once.
+    fn run(&mut self) {
+        self.session.asked();
+        self.session.flushed();
+        // nothing says that the input ends, so the turns are counted up to a number that no run uses up
+        for _ in 0..u64::MAX {
+            if !self.session.open {
+                return;
+            }
+            self.turn();
+            self.session.asked();
+            self.session.flushed();
         }
     }
 }
@@ -254,17 +269,19 @@ fn main(rt: HostRuntime) {
     }
     let mut desk = Desk::new(rt);
     desk.spoken = !w.plain;
-    let mut session = Session {
-        desk,
-        incoming: None,
-        lines: 0,
+    let mut input = Input {
+        session: Session {
+            desk,
+            incoming: None,
+            lines: 0,
+            echo: w.echo,
+            strict: w.strict,
+            asking: words::is_typed(rt),
+            open: true,
+        },
         line: [0u8; 16002],
         length: 0,
-        echo: w.echo,
-        strict: w.strict,
-        asking: words::is_typed(rt),
-        open: true,
     };
-    session.run();
-    session.told();
+    input.run();
+    input.session.told();
 }
