@@ -15,14 +15,11 @@ fn at(numbers: &[u32], i: usize) -> u32 {
 }
 
 // A message by its numbers, partner, operation and values, and by the partner to reply to. Values beyond the fourth only count.
-pub fn message_of(numbers: &[u32], reply: u32) -> Result<Message, Trouble> {
-    let Some(count) = numbers.len().checked_sub(2) else {
-        return Err(Trouble::Missing);
-    };
-    Ok(Message {
+pub fn message_of(numbers: &[u32], reply: u32) -> Message {
+    Message {
         partner: at(numbers, 0),
         operation: at(numbers, 1),
-        count: count.min(1000) as u32,
+        count: numbers.len().saturating_sub(2).min(1000) as u32,
         values: [
             at(numbers, 2),
             at(numbers, 3),
@@ -30,18 +27,17 @@ pub fn message_of(numbers: &[u32], reply: u32) -> Result<Message, Trouble> {
             at(numbers, 5),
         ],
         reply,
-    })
+    }
 }
 
 // The message that a post says: a partner, an operation, and up to eight values; then the partner to reply to, where one is named.
 fn posting(line: &[u8], from: usize) -> Result<Message, Trouble> {
     let reply = reply_in(line, from);
     let numbers = numbers_of(before(line, reply.from), from, 11)?;
-    let m = message_of(numbers.as_slice(), 0)?;
-    Ok(Message {
-        reply: reply_of(line, reply)?,
-        ..m
-    })
+    if numbers.len() < 2 {
+        return Err(Trouble::Missing);
+    }
+    Ok(message_of(numbers.as_slice(), reply_of(line, reply)?))
 }
 
 // Posts a message.

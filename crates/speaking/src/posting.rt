@@ -72,13 +72,10 @@ fn reply_of<'a>(names: &[u8; 16896], line: &'a [u8], w: Word) -> Result<u32, Unr
 fn posting<'a>(names: &[u8; 16896], line: &'a [u8], from: usize) -> Result<Message, Unread<'a>> {
     let reply = console::reply_in(line, from);
     let numbers = numbers_of(names, console::before(line, reply.from), from)?;
-    match console::message_of(numbers.as_slice(), 0) {
-        Ok(m) => Ok(Message {
-            reply: reply_of(names, line, reply)?,
-            ..m
-        }),
-        Err(why) => Err(Unread::Wrong(why)),
+    if numbers.len() < 2 {
+        return Err(Unread::Wrong(Trouble::Missing));
     }
+    Ok(console::message_of(numbers.as_slice(), reply_of(names, line, reply)?))
 }
 
 // What becomes of a message that waits now.
