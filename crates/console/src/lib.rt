@@ -7,7 +7,7 @@ mod taking;
 
 pub use answering::wrong;
 use commands::{Alone, Command, Listed, Numbered, Worded};
-pub use lists::{before, reply_in};
+pub use lists::{Numbers, before, numbers_of, reply_in, rest_of};
 use papers::Desk;
 pub use taking::{message_of, put_collected, put_step, put_tally, running};
 

@@ -1,6 +1,6 @@
 // The commands that change a state: post, step, run and collect.
 use super::answering::wrong;
-use super::lists::{before, numbers_of, reply_in, reply_of, run_of};
+use super::lists::{before, numbers_of, reply_in, reply_of, rest_of};
 use arrayvec::ArrayVec;
 use commands::Trouble;
 use drawing::Out;
@@ -108,7 +108,11 @@ pub(crate) fn run(desk: &mut Desk, line: &[u8], from: usize, number: u64) {
 
 // The budget and the choices of a line.
 pub fn running(line: &[u8], from: usize) -> Result<(u32, ArrayVec<usize, 1000>), Trouble> {
-    run_of(&numbers_of(line, from, 1002)?)
+    let numbers = numbers_of(line, from, 1002)?;
+    match numbers.as_slice().first() {
+        Some(budget) => Ok((*budget, rest_of(&numbers))),
+        None => Err(Trouble::Missing),
+    }
 }
 
 // A message that is handed out, behind its command word.
