@@ -31,10 +31,10 @@ fn written_whole(runtime: HostRuntime, file: File, desk: &Desk) -> Result<(), i3
 
 // The page in a new file, which then takes the name of the old one; or the reason why not.
 fn replaced(runtime: HostRuntime, file: &[u8], desk: &Desk) -> Result<(), i32> {
-    let mut new = name_with(runtime, file, b".XXXXXX").map_err(system::no_memory)?;
-    let made = system::create_temp(runtime, &mut new)?;
+    let mut new = name_with(file, b".XXXXXX")?;
+    let made = system::create_temp(runtime, new.as_mut_slice())?;
     let written = written_whole(runtime, made, desk);
-    replaced_by(runtime, &new, file, written)
+    replaced_by(runtime, new.as_slice(), file, written)
 }
 
 // The page takes the name, whatever has it.

@@ -2,10 +2,10 @@
 use super::sums::sum_of;
 use super::writing::forget;
 use super::{Desk, Filed, Said, first, sealed, system};
+use arrayvec::ArrayVec;
 use drawing::Out;
 use machine::State;
 use plan::table::LENGTH;
-use std::alloc::AllocError;
 use std::fs::File;
 use store::Kept;
 
@@ -38,12 +38,16 @@ pub fn put_failed(out: &mut Out, line: u64, word: &[u8], errno: i32) {
     out.put_byte(b'\n');
 }
 
-// The name of a file with an ending behind it.
-pub fn name_with(runtime: HostRuntime, file: &[u8], ending: &[u8]) -> Result<Vec<u8>, AllocError> {
-    let mut name = Vec::new(runtime.alloc());
-    name.extend_from_slice(file)?;
-    name.extend_from_slice(ending)?;
-    Ok(name)
+// The name of a file with an ending behind it; or the reason, where it is too long.
+pub fn name_with(file: &[u8], ending: &[u8]) -> Result<ArrayVec<u8, 4095>, i32> {
+    let mut name = ArrayVec::new();
+    let whole = name.try_extend_from_slice(file).is_ok()
+        && name.try_extend_from_slice(ending).is_ok();
+    if whole {
+        Ok(name)
+    } else {
+        Err(system::LONG_NAME)
+    }
 }
 
 // All of a state is written, and is on disk, and the file is closed; or the reason why not.
@@ -92,8 +96,8 @@ fn folder_kept(runtime: HostRuntime, file: &[u8]) {
 
 // Saves a state by the name of its file, or tells why not.
 fn saved(runtime: HostRuntime, file: &[u8], packed: &[u8]) -> Result<(), i32> {
-    let mut new = name_with(runtime, file, b".XXXXXX").map_err(system::no_memory)?;
-    replaced(runtime, &mut new, file, packed)?;
+    let mut new = name_with(file, b".XXXXXX")?;
+    replaced(runtime, new.as_mut_slice(), file, packed)?;
     folder_kept(runtime, file);
     Ok(())
 }
