@@ -6,7 +6,7 @@ use commands::Trouble;
 use drawing::Out;
 use machine::{Collected, Message, Step, Tally};
 use order::End;
-use papers::Desk;
+use papers::Clerk;
 use wording::put_message;
 
 // Number i of a message's; 0 where it has fewer.
@@ -41,14 +41,15 @@ fn posting(line: &[u8], from: usize) -> Result<Message, Trouble> {
 }
 
 // Posts a message.
-pub(crate) fn post(desk: &mut Desk, line: &[u8], from: usize, number: u64) {
+pub(crate) fn post(clerk: &mut Clerk, line: &[u8], from: usize, number: u64) {
     match posting(line, from) {
         Ok(m) => {
-            let p = mail::post(desk.state, m);
-            desk.out.put_refusal(b"post", p.refusal);
-            desk.change(p.state, desk.tally);
+            let p = mail::post(clerk.desk.state, m);
+            clerk.out.put_refusal(b"post", p.refusal);
+            let tally = clerk.desk.tally;
+            clerk.desk.change(p.state, tally);
         }
-        Err(why) => wrong(desk, number, why),
+        Err(why) => wrong(clerk, number, why),
     }
 }
 
@@ -86,23 +87,29 @@ pub fn put_step(out: &mut Out, x: Step) {
     out.put_byte(b'\n');
 }
 
-pub(crate) fn step(desk: &mut Desk, choice: u32) {
-    let r = step::take_step(desk.state, choice as usize, desk.tally);
-    put_step(&mut desk.out, r.answer);
-    desk.change(r.state, r.tally);
+pub(crate) fn step(clerk: &mut Clerk, choice: u32) {
+    let r = step::take_step(clerk.desk.state, choice as usize, clerk.desk.tally);
+    put_step(&mut clerk.out, r.answer);
+    clerk.desk.change(r.state, r.tally);
 }
 
 // Takes steps by a budget and up to 1,000 choices.
-pub(crate) fn run(desk: &mut Desk, line: &[u8], from: usize, number: u64) {
+pub(crate) fn run(clerk: &mut Clerk, line: &[u8], from: usize, number: u64) {
     match running(line, from) {
         Ok((budget, choices)) => {
             let mut left = budget as usize;
-            let r = run::run(desk.state, choices.as_slice(), &mut left, desk.tally);
-            desk.out
+            let r = run::run(
+                clerk.desk.state,
+                choices.as_slice(),
+                &mut left,
+                clerk.desk.tally,
+            );
+            clerk
+                .out
                 .put_pair(b"run", r.taken as u64, u64::from(r.refusal));
-            desk.change(r.state, r.tally);
+            clerk.desk.change(r.state, r.tally);
         }
-        Err(why) => wrong(desk, number, why),
+        Err(why) => wrong(clerk, number, why),
     }
 }
 
@@ -127,10 +134,11 @@ pub fn put_collected(out: &mut Out, word: &[u8], c: Collected) {
     out.put_byte(b'\n');
 }
 
-pub(crate) fn collect(desk: &mut Desk) {
-    let c = mail::collect(desk.state);
-    put_collected(&mut desk.out, b"collect", c);
-    desk.change(c.state, desk.tally);
+pub(crate) fn collect(clerk: &mut Clerk) {
+    let c = mail::collect(clerk.desk.state);
+    put_collected(&mut clerk.out, b"collect", c);
+    let tally = clerk.desk.tally;
+    clerk.desk.change(c.state, tally);
 }
 
 // The five counts.

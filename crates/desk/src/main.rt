@@ -6,7 +6,7 @@ mod words;
 
 use commands::Command;
 use incoming::{Excess, Incoming};
-use papers::{Desk, Said};
+use papers::{Clerk, Said};
 use phrases::What;
 use std::io::Read;
 
@@ -14,7 +14,7 @@ use std::io::Read;
 // whether an error ends the session, and whether who types is asked for the next line; and whether input may follow.
 #[derive(Drop)]
 struct Session {
-    desk: Desk,
+    clerk: Clerk,
     incoming: Option<Incoming>,
     lines: u64,
     echo: bool,
@@ -53,10 +53,10 @@ impl Session {
             return;
         }
         if !is_nothing(line) {
-            self.desk.out.put(b"> ");
+            self.clerk.out.put(b"> ");
         }
-        self.desk.out.put(line);
-        self.desk.out.put_byte(b'\n');
+        self.clerk.out.put(line);
+        self.clerk.out.put_byte(b'\n');
     }
 
     // A line of a text, comment or not; a prompt alone for the blank one that ends it.
@@ -64,22 +64,22 @@ impl Session {
         if !self.echo {
             return;
         }
-        self.desk.out.put_byte(b'>');
+        self.clerk.out.put_byte(b'>');
         if !line.is_empty() {
-            self.desk.out.put_byte(b' ');
+            self.clerk.out.put_byte(b' ');
         }
-        self.desk.out.put(line);
-        self.desk.out.put_byte(b'\n');
+        self.clerk.out.put(line);
+        self.clerk.out.put_byte(b'\n');
     }
 
     // A command, or the beginning of a text; that may drop what is live.
     fn answered(&mut self, line: &[u8]) {
         self.echoed(line);
         if is_write(line) {
-            self.desk.bold = phrases::phrase_of(line).bold;
+            self.clerk.desk.bold = phrases::phrase_of(line).bold;
             self.incoming = Some(Incoming::begun(self.lines));
         } else {
-            speaking::answer(&mut self.desk, line, self.lines);
+            speaking::answer(&mut self.clerk, line, self.lines);
         }
     }
 
@@ -87,12 +87,12 @@ impl Session {
     fn written(&mut self) {
         if let Some(incoming) = self.incoming.take() {
             match incoming.spoilt {
-                None => speaking::written(&mut self.desk, incoming.text.as_slice(), incoming.line),
+                None => speaking::written(&mut self.clerk, incoming.text.as_slice(), incoming.line),
                 Some((number, Excess::Line)) => self
-                    .desk
+                    .clerk
                     .error(number, b"the line has more than 16000 characters"),
                 Some((number, Excess::Text)) => self
-                    .desk
+                    .clerk
                     .error(number, b"the text has more than 131072 characters"),
             }
         }
@@ -117,14 +117,16 @@ impl Session {
         match &mut self.incoming {
             Some(incoming) => incoming.spoil(self.lines, Excess::Line),
             None => self
-                .desk
+                .clerk
                 .error(self.lines, b"the line has more than 16000 characters"),
         }
     }
 
     // Whether the session ends here: it was told to, an answer could not be written, or an error ends it.
     fn is_over(&self) -> bool {
-        self.desk.over || self.desk.out.is_lost() || self.strict && self.desk.said == Said::Error
+        self.clerk.desk.over
+            || self.clerk.out.is_lost()
+            || self.strict && self.clerk.desk.said == Said::Error
     }
 
     // The session goes on, or is over.
@@ -149,9 +151,9 @@ impl Session {
 
     // What is not saved at the end of the input is told, where the desk speaks to a person.
     fn warned(&mut self) {
-        if self.desk.spoken && speaking::is_at_risk(&self.desk) {
-            speaking::put_risk(&mut self.desk);
-            self.desk.out.put_byte(b'\n');
+        if self.clerk.desk.spoken && speaking::is_at_risk(&self.clerk.desk) {
+            speaking::put_risk(&mut self.clerk);
+            self.clerk.out.put_byte(b'\n');
         }
     }
 
@@ -165,15 +167,15 @@ impl Session {
     // The input cannot be read.
     fn failed(&mut self) {
         let number = self.lines.saturating_add(1);
-        self.desk.error(number, b"the input cannot be read");
+        self.clerk.error(number, b"the input cannot be read");
         self.incoming = None;
         self.open = false;
-        words::stopped(self.desk.out.runtime(), b"the input cannot be read\n");
+        words::stopped(self.clerk.out.runtime(), b"the input cannot be read\n");
     }
 
     // Writes what waits.
     fn flushed(&mut self) {
-        self.desk.out.flush();
+        self.clerk.out.flush();
         self.gone_on();
     }
 
@@ -181,18 +183,18 @@ impl Session {
     fn asked(&mut self) {
         if self.asking && self.open {
             match self.incoming {
-                None => self.desk.out.put(b"desk> "),
-                Some(_) => self.desk.out.put(b"text> "),
+                None => self.clerk.out.put(b"desk> "),
+                Some(_) => self.clerk.out.put(b"text> "),
             }
         }
     }
 
     // Why the session ended before its input did, where it did, on standard error: so a script that runs the desk knows.
     fn told(&self) {
-        let runtime = self.desk.out.runtime();
-        if self.desk.out.is_lost() {
+        let runtime = self.clerk.out.runtime();
+        if self.clerk.out.is_lost() {
             words::stopped(runtime, b"an answer could not be written\n");
-        } else if self.strict && self.desk.said == Said::Error {
+        } else if self.strict && self.clerk.desk.said == Said::Error {
             words::stopped(runtime, b"the last line is an error\n");
         }
     }
@@ -226,7 +228,7 @@ impl Input {
     // Reads once, and answers each line that ends in what was read.
     fn turn(&mut self) {
         let mut chunk = [0u8; 4096];
-        let mut stdin = self.session.desk.out.runtime().stdin();
+        let mut stdin = self.session.clerk.out.runtime().stdin();
         match stdin.read(&mut chunk) {
             Ok(0) => self.closed(),
             Ok(n) => self.feed(&chunk[..n]),
@@ -267,11 +269,11 @@ fn main(rt: HostRuntime) {
         );
         return;
     }
-    let mut desk = Desk::new(rt);
-    desk.spoken = !w.plain;
+    let mut clerk = Clerk::new(rt);
+    clerk.desk.spoken = !w.plain;
     let mut input = Input {
         session: Session {
-            desk,
+            clerk,
             incoming: None,
             lines: 0,
             echo: w.echo,

@@ -4,14 +4,14 @@
 #![tactic(auto)]
 
 use drawing::Out;
-use papers::Desk;
+use papers::Clerk;
 use std::io::Read;
 
 // The console, and what is reported; the number of lines ended so far; the examples begun, and those that agreed, the present one not counted; and the line
 // at which the present one was first answered otherwise, where it was.
 #[derive(Drop)]
 struct Session {
-    desk: Desk,
+    clerk: Clerk,
     report: Out,
     lines: u64,
     examples: u64,
@@ -70,12 +70,12 @@ impl Session {
     // A command with its answer, behind the first `=`.
     fn tried(&mut self, line: &[u8]) {
         let mark = line.iter().position(|b| *b == b'=').unwrap_or(line.len());
-        self.desk.out = Out::standard(self.report.runtime());
+        self.clerk.out = Out::standard(self.report.runtime());
         // no example is written as text, so that there are no names
-        self.desk.names = [0u8; 16896];
-        console::answer(&mut self.desk, first(line, mark), self.lines);
+        self.clerk.desk.names = [0u8; 16896];
+        console::answer(&mut self.clerk, first(line, mark), self.lines);
         if !agrees(
-            self.desk.out.waiting(),
+            self.clerk.out.waiting(),
             line,
             behind(line, mark.saturating_add(1)),
         ) {
@@ -180,7 +180,7 @@ impl Input {
 fn main(rt: HostRuntime) {
     let mut input = Input {
         session: Session {
-            desk: Desk::new(rt),
+            clerk: Clerk::new(rt),
             report: Out::standard(rt),
             lines: 0,
             examples: 0,
