@@ -7,69 +7,69 @@ mod retaining;
 
 use ordinary::Kind;
 pub use paging::page;
-use papers::Desk;
+use papers::Clerk;
 
 // Whether the file is the one that this desk saved or opened last, and holds something else now: another desk saved it since.
-fn is_anothers(desk: &Desk, file: &[u8]) -> bool {
-    match desk.filed {
-        Some(filed) if !desk.bold && filed.name == papers::sum_of(file) => {
-            ordinary::sum_at(desk.out.runtime(), file) != filed.held
+fn is_anothers(clerk: &Clerk, file: &[u8]) -> bool {
+    match clerk.desk.filed {
+        Some(filed) if !clerk.desk.bold && filed.name == papers::sum_of(file) => {
+            ordinary::sum_at(clerk.out.runtime(), file) != filed.held
         }
         _ => false,
     }
 }
 
 // A save over an ordinary file.
-fn replacing(desk: &mut Desk, file: &[u8], number: u64) {
-    if is_anothers(desk, file) {
-        desk.error(
+fn replacing(clerk: &mut Clerk, file: &[u8], number: u64) {
+    if is_anothers(clerk, file) {
+        clerk.error(
             number,
             b"cannot save: another desk has saved it since: say save! to replace it",
         );
     } else {
-        replaced(desk, file, number);
+        replaced(clerk, file, number);
     }
 }
 
 // A save over an ordinary file, which stays as FILE.old.
-fn replaced(desk: &mut Desk, file: &[u8], number: u64) {
-    if let Err(reason) = retaining::retained(desk.out.runtime(), file) {
+fn replaced(clerk: &mut Clerk, file: &[u8], number: u64) {
+    if let Err(reason) = retaining::retained(clerk.out.runtime(), file) {
         papers::put_failed(
-            &mut desk.out,
+            &mut clerk.out,
             number,
             b"keep what it holds as FILE.old",
             reason,
         );
-        desk.fail();
+        clerk.desk.fail();
     } else {
-        papers::save(desk, file, number);
+        papers::save(clerk, file, number);
     }
 }
 
 // A save over a file that holds a plan: a desk without one is likely to have forgotten to open it.
-fn over_plan(desk: &mut Desk, file: &[u8], number: u64) {
-    if desk.state.length == 0 && !desk.bold {
-        desk.error(
+fn over_plan(clerk: &mut Clerk, file: &[u8], number: u64) {
+    if clerk.desk.state.length == 0 && !clerk.desk.bold {
+        clerk.error(
             number,
             b"cannot save: the file has a plan, and the desk has none: say save! to replace it",
         );
     } else {
-        replacing(desk, file, number);
+        replacing(clerk, file, number);
     }
 }
 
 // Saves the state.
-pub fn save(desk: &mut Desk, file: &[u8], number: u64) {
-    if !desk.spoken {
-        papers::save(desk, file, number);
+pub fn save(clerk: &mut Clerk, file: &[u8], number: u64) {
+    if !clerk.desk.spoken {
+        papers::save(clerk, file, number);
     } else {
-        match ordinary::kind_of(desk.out.runtime(), file) {
-            Kind::Nothing => papers::save(desk, file, number),
-            Kind::Ordinary => replacing(desk, file, number),
-            Kind::Plan => over_plan(desk, file, number),
-            Kind::Folder => desk.error(number, b"cannot save: it is a folder"),
-            Kind::Link => desk.error(number, b"cannot save: it is a link"),
-            Kind::Other => desk.error(number, b"cannot save: it is no ordinary file"),
+        match ordinary::kind_of(clerk.out.runtime(), file) {
+            Kind::Nothing => papers::save(clerk, file, number),
+            Kind::Ordinary => replacing(clerk, file, number),
+            Kind::Plan => over_plan(clerk, file, number),
+            Kind::Folder => clerk.error(number, b"cannot save: it is a folder"),
+            Kind::Link => clerk.error(number, b"cannot save: it is a link"),
+            Kind::Other => clerk.error(number, b"cannot save: it is no ordinary file"),
         }
     }
 }

@@ -3,7 +3,7 @@
 use super::ordinary::Kind;
 use super::{ordinary, retaining};
 use drawing::Out;
-use papers::{Desk, name_with, replaced_by, system};
+use papers::{Clerk, Desk, name_with, replaced_by, system};
 use std::fs::File;
 use std::os::fd::AsRawFd;
 
@@ -31,46 +31,46 @@ fn written_whole(runtime: HostRuntime, file: File, desk: &Desk) -> Result<(), i3
 
 // The page in a new file, which then takes the name of the old one; or the reason why not.
 fn replaced(runtime: HostRuntime, file: &[u8], desk: &Desk) -> Result<(), i32> {
-    let mut new = name_with(runtime, file, b".XXXXXX").map_err(system::no_memory)?;
-    let made = system::create_temp(runtime, &mut new)?;
+    let mut new = name_with(file, b".XXXXXX")?;
+    let made = system::create_temp(runtime, new.as_mut_slice())?;
     let written = written_whole(runtime, made, desk);
-    replaced_by(runtime, &new, file, written)
+    replaced_by(runtime, new.as_slice(), file, written)
 }
 
 // The page takes the name, whatever has it.
-fn made(desk: &mut Desk, file: &[u8], number: u64) {
-    if let Err(reason) = replaced(desk.out.runtime(), file, desk) {
-        papers::put_failed(&mut desk.out, number, b"write the page", reason);
-        desk.fail();
+fn made(clerk: &mut Clerk, file: &[u8], number: u64) {
+    if let Err(reason) = replaced(clerk.out.runtime(), file, &clerk.desk) {
+        papers::put_failed(&mut clerk.out, number, b"write the page", reason);
+        clerk.desk.fail();
     } else {
-        desk.out.put_refusal(b"page", 0);
+        clerk.out.put_refusal(b"page", 0);
     }
 }
 
 // The page over a file that is none, which stays as FILE.old; only where that is said.
-fn over_other(desk: &mut Desk, file: &[u8], number: u64, why: &[u8]) {
-    if !desk.bold {
-        desk.error(number, why);
-    } else if let Err(reason) = retaining::retained(desk.out.runtime(), file) {
+fn over_other(clerk: &mut Clerk, file: &[u8], number: u64, why: &[u8]) {
+    if !clerk.desk.bold {
+        clerk.error(number, why);
+    } else if let Err(reason) = retaining::retained(clerk.out.runtime(), file) {
         papers::put_failed(
-            &mut desk.out,
+            &mut clerk.out,
             number,
             b"keep what it holds as FILE.old",
             reason,
         );
-        desk.fail();
+        clerk.desk.fail();
     } else {
-        made(desk, file, number);
+        made(clerk, file, number);
     }
 }
 
 // The page over an ordinary file without a saved plan: one that is a page is made anew.
-fn over_ordinary(desk: &mut Desk, file: &[u8], number: u64) {
-    if ordinary::is_page(desk.out.runtime(), file) {
-        made(desk, file, number);
+fn over_ordinary(clerk: &mut Clerk, file: &[u8], number: u64) {
+    if ordinary::is_page(clerk.out.runtime(), file) {
+        made(clerk, file, number);
     } else {
         over_other(
-            desk,
+            clerk,
             file,
             number,
             b"cannot write the page: the file is no page of the desk: say page! to replace it",
@@ -79,22 +79,22 @@ fn over_ordinary(desk: &mut Desk, file: &[u8], number: u64) {
 }
 
 // The state as a page.
-pub fn page(desk: &mut Desk, file: &[u8], number: u64) {
-    if !desk.spoken {
-        made(desk, file, number);
+pub fn page(clerk: &mut Clerk, file: &[u8], number: u64) {
+    if !clerk.desk.spoken {
+        made(clerk, file, number);
     } else {
-        match ordinary::kind_of(desk.out.runtime(), file) {
-            Kind::Nothing => made(desk, file, number),
-            Kind::Ordinary => over_ordinary(desk, file, number),
+        match ordinary::kind_of(clerk.out.runtime(), file) {
+            Kind::Nothing => made(clerk, file, number),
+            Kind::Ordinary => over_ordinary(clerk, file, number),
             Kind::Plan => over_other(
-                desk,
+                clerk,
                 file,
                 number,
                 b"cannot write the page: the file holds a saved plan: say page! to replace it",
             ),
-            Kind::Folder => desk.error(number, b"cannot write the page: it is a folder"),
-            Kind::Link => desk.error(number, b"cannot write the page: it is a link"),
-            Kind::Other => desk.error(number, b"cannot write the page: it is no ordinary file"),
+            Kind::Folder => clerk.error(number, b"cannot write the page: it is a folder"),
+            Kind::Link => clerk.error(number, b"cannot write the page: it is a link"),
+            Kind::Other => clerk.error(number, b"cannot write the page: it is no ordinary file"),
         }
     }
 }

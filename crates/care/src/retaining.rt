@@ -43,7 +43,7 @@ fn copied_to(runtime: HostRuntime, from: &File, new: &mut [u8], old: &[u8]) -> R
 // What a file holds stays as FILE.old, or the reason why not.
 pub(crate) fn retained(runtime: HostRuntime, file: &[u8]) -> Result<(), i32> {
     let from = system::open_read(runtime, file)?;
-    let old = name_with(runtime, file, b".old").map_err(system::no_memory)?;
-    let mut new = name_with(runtime, file, b".old.XXXXXX").map_err(system::no_memory)?;
-    copied_to(runtime, &from, &mut new, &old)
+    let old = name_with(file, b".old")?;
+    let mut new = name_with(file, b".old.XXXXXX")?;
+    copied_to(runtime, &from, new.as_mut_slice(), old.as_slice())
 }

@@ -1,7 +1,7 @@
 // What is wrong with a line.
 use commands::Trouble;
 use drawing::Out;
-use papers::Desk;
+use papers::Clerk;
 
 fn put_trouble(out: &mut Out, number: u64, why: Trouble) {
     match why {
@@ -14,7 +14,7 @@ fn put_trouble(out: &mut Out, number: u64, why: Trouble) {
 }
 
 // The line with this number is wrong.
-pub fn wrong(desk: &mut Desk, number: u64, why: Trouble) {
-    put_trouble(&mut desk.out, number, why);
-    desk.fail();
+pub fn wrong(clerk: &mut Clerk, number: u64, why: Trouble) {
+    put_trouble(&mut clerk.out, number, why);
+    clerk.desk.fail();
 }

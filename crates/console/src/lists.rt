@@ -78,14 +78,11 @@ pub(crate) fn reply_of(line: &[u8], w: Word) -> Result<u32, Trouble> {
     }
 }
 
-// The budget of a run, which is its first number, and its choices, which are those after it.
-pub fn run_of(numbers: &Numbers) -> Result<(u32, ArrayVec<usize, 1000>), Trouble> {
-    let Some((budget, rest)) = numbers.as_slice().split_first() else {
-        return Err(Trouble::Missing);
-    };
-    let mut choices = ArrayVec::new();
-    for number in rest {
-        let _ = choices.try_push(*number as usize);
+// The numbers after the first.
+pub fn rest_of(numbers: &Numbers) -> ArrayVec<usize, 1000> {
+    let mut rest = ArrayVec::new();
+    for number in numbers.as_slice().iter().skip(1) {
+        let _ = rest.try_push(*number as usize);
     }
-    Ok((*budget, choices))
+    rest
 }

@@ -1,12 +1,12 @@
 // The commands that change a state: post, step, run and collect.
 use super::answering::wrong;
-use super::lists::{before, numbers_of, reply_in, reply_of, run_of};
+use super::lists::{before, numbers_of, reply_in, reply_of, rest_of};
 use arrayvec::ArrayVec;
 use commands::Trouble;
 use drawing::Out;
 use machine::{Collected, Message, Step, Tally};
 use order::End;
-use papers::Desk;
+use papers::Clerk;
 use wording::put_message;
 
 // Number i of a message's; 0 where it has fewer.
@@ -15,14 +15,11 @@ fn at(numbers: &[u32], i: usize) -> u32 {
 }
 
 // A message by its numbers, partner, operation and values, and by the partner to reply to. Values beyond the fourth only count.
-pub fn message_of(numbers: &[u32], reply: u32) -> Result<Message, Trouble> {
-    let Some(count) = numbers.len().checked_sub(2) else {
-        return Err(Trouble::Missing);
-    };
-    Ok(Message {
+pub fn message_of(numbers: &[u32], reply: u32) -> Message {
+    Message {
         partner: at(numbers, 0),
         operation: at(numbers, 1),
-        count: count.min(1000) as u32,
+        count: numbers.len().saturating_sub(2).min(1000) as u32,
         values: [
             at(numbers, 2),
             at(numbers, 3),
@@ -30,29 +27,29 @@ pub fn message_of(numbers: &[u32], reply: u32) -> Result<Message, Trouble> {
             at(numbers, 5),
         ],
         reply,
-    })
+    }
 }
 
 // The message that a post says: a partner, an operation, and up to eight values; then the partner to reply to, where one is named.
 fn posting(line: &[u8], from: usize) -> Result<Message, Trouble> {
     let reply = reply_in(line, from);
     let numbers = numbers_of(before(line, reply.from), from, 11)?;
-    let m = message_of(numbers.as_slice(), 0)?;
-    Ok(Message {
-        reply: reply_of(line, reply)?,
-        ..m
-    })
+    if numbers.len() < 2 {
+        return Err(Trouble::Missing);
+    }
+    Ok(message_of(numbers.as_slice(), reply_of(line, reply)?))
 }
 
 // Posts a message.
-pub(crate) fn post(desk: &mut Desk, line: &[u8], from: usize, number: u64) {
+pub(crate) fn post(clerk: &mut Clerk, line: &[u8], from: usize, number: u64) {
     match posting(line, from) {
         Ok(m) => {
-            let p = mail::post(desk.state, m);
-            desk.out.put_refusal(b"post", p.refusal);
-            desk.change(p.state, desk.tally);
+            let p = mail::post(clerk.desk.state, m);
+            clerk.out.put_refusal(b"post", p.refusal);
+            let tally = clerk.desk.tally;
+            clerk.desk.change(p.state, tally);
         }
-        Err(why) => wrong(desk, number, why),
+        Err(why) => wrong(clerk, number, why),
     }
 }
 
@@ -90,29 +87,39 @@ pub fn put_step(out: &mut Out, x: Step) {
     out.put_byte(b'\n');
 }
 
-pub(crate) fn step(desk: &mut Desk, choice: u32) {
-    let r = step::take_step(desk.state, choice as usize, desk.tally);
-    put_step(&mut desk.out, r.answer);
-    desk.change(r.state, r.tally);
+pub(crate) fn step(clerk: &mut Clerk, choice: u32) {
+    let r = step::take_step(clerk.desk.state, choice as usize, clerk.desk.tally);
+    put_step(&mut clerk.out, r.answer);
+    clerk.desk.change(r.state, r.tally);
 }
 
 // Takes steps by a budget and up to 1,000 choices.
-pub(crate) fn run(desk: &mut Desk, line: &[u8], from: usize, number: u64) {
+pub(crate) fn run(clerk: &mut Clerk, line: &[u8], from: usize, number: u64) {
     match running(line, from) {
         Ok((budget, choices)) => {
             let mut left = budget as usize;
-            let r = run::run(desk.state, choices.as_slice(), &mut left, desk.tally);
-            desk.out
+            let r = run::run(
+                clerk.desk.state,
+                choices.as_slice(),
+                &mut left,
+                clerk.desk.tally,
+            );
+            clerk
+                .out
                 .put_pair(b"run", r.taken as u64, u64::from(r.refusal));
-            desk.change(r.state, r.tally);
+            clerk.desk.change(r.state, r.tally);
         }
-        Err(why) => wrong(desk, number, why),
+        Err(why) => wrong(clerk, number, why),
     }
 }
 
 // The budget and the choices of a line.
 pub fn running(line: &[u8], from: usize) -> Result<(u32, ArrayVec<usize, 1000>), Trouble> {
-    run_of(&numbers_of(line, from, 1002)?)
+    let numbers = numbers_of(line, from, 1002)?;
+    match numbers.as_slice().first() {
+        Some(budget) => Ok((*budget, rest_of(&numbers))),
+        None => Err(Trouble::Missing),
+    }
 }
 
 // A message that is handed out, behind its command word.
@@ -127,10 +134,11 @@ pub fn put_collected(out: &mut Out, word: &[u8], c: Collected) {
     out.put_byte(b'\n');
 }
 
-pub(crate) fn collect(desk: &mut Desk) {
-    let c = mail::collect(desk.state);
-    put_collected(&mut desk.out, b"collect", c);
-    desk.change(c.state, desk.tally);
+pub(crate) fn collect(clerk: &mut Clerk) {
+    let c = mail::collect(clerk.desk.state);
+    put_collected(&mut clerk.out, b"collect", c);
+    let tally = clerk.desk.tally;
+    clerk.desk.change(c.state, tally);
 }
 
 // The five counts.

@@ -6,24 +6,29 @@ mod words;
 
 use commands::Command;
 use incoming::{Excess, Incoming};
-use papers::{Desk, Said};
+use papers::{Clerk, Said};
 use phrases::What;
 use std::io::Read;
 
-// The console; the text of a plan that comes in, where one does; the number of lines ended so far; the present line, as far as it is kept, and how many
-// bytes of it are; whether each line is repeated before its answer, whether an error ends the session, and whether who types is asked for the next line;
-// and whether input may follow.
+// The console; the text of a plan that comes in, where one does; the number of lines ended so far; whether each line is repeated before its answer,
+// whether an error ends the session, and whether who types is asked for the next line; and whether input may follow.
 #[derive(Drop)]
 struct Session {
-    desk: Desk,
+    clerk: Clerk,
     incoming: Option<Incoming>,
     lines: u64,
-    line: [u8; 16002],
-    length: usize,
     echo: bool,
     strict: bool,
     asking: bool,
     open: bool,
+}
+
+// The session, and the present line, as far as it is kept, and how many bytes of it are.
+#[derive(Drop)]
+struct Input {
+    session: Session,
+    line: [u8; 16002],
+    length: usize,
 }
 
 // Whether the lines that follow a line are a text.
@@ -48,10 +53,10 @@ impl Session {
             return;
         }
         if !is_nothing(line) {
-            self.desk.out.put(b"> ");
+            self.clerk.out.put(b"> ");
         }
-        self.desk.out.put(line);
-        self.desk.out.put_byte(b'\n');
+        self.clerk.out.put(line);
+        self.clerk.out.put_byte(b'\n');
     }
 
     // A line of a text, comment or not; a prompt alone for the blank one that ends it.
@@ -59,22 +64,22 @@ impl Session {
         if !self.echo {
             return;
         }
-        self.desk.out.put_byte(b'>');
+        self.clerk.out.put_byte(b'>');
         if !line.is_empty() {
-            self.desk.out.put_byte(b' ');
+            self.clerk.out.put_byte(b' ');
         }
-        self.desk.out.put(line);
-        self.desk.out.put_byte(b'\n');
+        self.clerk.out.put(line);
+        self.clerk.out.put_byte(b'\n');
     }
 
     // A command, or the beginning of a text; that may drop what is live.
     fn answered(&mut self, line: &[u8]) {
         self.echoed(line);
         if is_write(line) {
-            self.desk.bold = phrases::phrase_of(line).bold;
+            self.clerk.desk.bold = phrases::phrase_of(line).bold;
             self.incoming = Some(Incoming::begun(self.lines));
         } else {
-            speaking::answer(&mut self.desk, line, self.lines);
+            speaking::answer(&mut self.clerk, line, self.lines);
         }
     }
 
@@ -82,12 +87,12 @@ impl Session {
     fn written(&mut self) {
         if let Some(incoming) = self.incoming.take() {
             match incoming.spoilt {
-                None => speaking::written(&mut self.desk, incoming.text.as_slice(), incoming.line),
+                None => speaking::written(&mut self.clerk, incoming.text.as_slice(), incoming.line),
                 Some((number, Excess::Line)) => self
-                    .desk
+                    .clerk
                     .error(number, b"the line has more than 16000 characters"),
                 Some((number, Excess::Text)) => self
-                    .desk
+                    .clerk
                     .error(number, b"the text has more than 131072 characters"),
             }
         }
@@ -112,14 +117,16 @@ impl Session {
         match &mut self.incoming {
             Some(incoming) => incoming.spoil(self.lines, Excess::Line),
             None => self
-                .desk
+                .clerk
                 .error(self.lines, b"the line has more than 16000 characters"),
         }
     }
 
     // Whether the session ends here: it was told to, an answer could not be written, or an error ends it.
     fn is_over(&self) -> bool {
-        self.desk.over || self.desk.out.is_lost() || self.strict && self.desk.said == Said::Error
+        self.clerk.desk.over
+            || self.clerk.out.is_lost()
+            || self.strict && self.clerk.desk.said == Said::Error
     }
 
     // The session goes on, or is over.
@@ -129,20 +136,75 @@ impl Session {
         }
     }
 
-    // The present line has ended.
-    fn ended(&mut self) {
+    // A line has ended, of which so much is kept.
+    fn ended(&mut self, kept: &[u8]) {
         if !self.open {
             return;
         }
-        let line = self.line;
-        let kept = first(&line, self.length);
         self.lines = self.lines.saturating_add(1);
-        self.length = 0;
         match text::line_of(kept) {
             Some(length) => self.taken(first(kept, length)),
             None => self.too_long(),
         }
         self.gone_on();
+    }
+
+    // What is not saved at the end of the input is told, where the desk speaks to a person.
+    fn warned(&mut self) {
+        if self.clerk.desk.spoken && speaking::is_at_risk(&self.clerk.desk) {
+            speaking::put_risk(&mut self.clerk);
+            self.clerk.out.put_byte(b'\n');
+        }
+    }
+
+    // At the end of the input a text may have no blank line.
+    fn closed(&mut self) {
+        self.written();
+        self.open = false;
+        self.warned();
+    }
+
+    // The input cannot be read.
+    fn failed(&mut self) {
+        let number = self.lines.saturating_add(1);
+        self.clerk.error(number, b"the input cannot be read");
+        self.incoming = None;
+        self.open = false;
+        words::stopped(self.clerk.out.runtime(), b"the input cannot be read\n");
+    }
+
+    // Writes what waits.
+    fn flushed(&mut self) {
+        self.clerk.out.flush();
+        self.gone_on();
+    }
+
+    // Who types is asked for the next line.
+    fn asked(&mut self) {
+        if self.asking && self.open {
+            match self.incoming {
+                None => self.clerk.out.put(b"desk> "),
+                Some(_) => self.clerk.out.put(b"text> "),
+            }
+        }
+    }
+
+    // Why the session ended before its input did, where it did, on standard error: so a script that runs the desk knows.
+    fn told(&self) {
+        let runtime = self.clerk.out.runtime();
+        if self.clerk.out.is_lost() {
+            words::stopped(runtime, b"an answer could not be written\n");
+        } else if self.strict && self.clerk.desk.said == Said::Error {
+            words::stopped(runtime, b"the last line is an error\n");
+        }
+    }
+}
+
+impl Input {
+    // The present line has ended.
+    fn ended(&mut self) {
+        self.session.ended(first(&self.line, self.length));
+        self.length = 0;
     }
 
     // What was read, line by line.
@@ -155,82 +217,37 @@ impl Session {
         }
     }
 
-    // What is not saved at the end of the input is told, where the desk speaks to a person.
-    fn warned(&mut self) {
-        if self.desk.spoken && speaking::is_at_risk(&self.desk) {
-            speaking::put_risk(&mut self.desk);
-            self.desk.out.put_byte(b'\n');
-        }
-    }
-
-    // At the end of the input a last line may have no line end, and a text no blank line.
+    // At the end of the input a last line may have no line end.
     fn closed(&mut self) {
         if 0 < self.length {
             self.ended();
         }
-        self.written();
-        self.open = false;
-        self.warned();
-    }
-
-    // The input cannot be read.
-    fn failed(&mut self) {
-        let number = self.lines.saturating_add(1);
-        self.desk.error(number, b"the input cannot be read");
-        self.incoming = None;
-        self.open = false;
-        words::stopped(self.desk.out.runtime(), b"the input cannot be read\n");
+        self.session.closed();
     }
 
     // Reads once, and answers each line that ends in what was read.
     fn turn(&mut self) {
         let mut chunk = [0u8; 4096];
-        let mut stdin = self.desk.out.runtime().stdin();
+        let mut stdin = self.session.clerk.out.runtime().stdin();
         match stdin.read(&mut chunk) {
             Ok(0) => self.closed(),
             Ok(n) => self.feed(&chunk[..n]),
-            Err(_) => self.failed(),
-        }
-    }
-
-    // Writes what waits.
-    fn flushed(&mut self) {
-        self.desk.out.flush();
-        self.gone_on();
-    }
-
-    // Who types is asked for the next line.
-    fn asked(&mut self) {
-        if self.asking && self.open {
-            match self.incoming {
-                None => self.desk.out.put(b"desk> "),
-                Some(_) => self.desk.out.put(b"text> "),
-            }
+            Err(_) => self.session.failed(),
         }
     }
 
     // All of the input. Who types the commands sees each answer at once.
     fn run(&mut self) {
-        self.asked();
-        self.flushed();
+        self.session.asked();
+        self.session.flushed();
         // nothing says that the input ends, so the turns are counted up to a number that no run uses up
         for _ in 0..u64::MAX {
-            if !self.open {
+            if !self.session.open {
                 return;
             }
             self.turn();
-            self.asked();
-            self.flushed();
-        }
-    }
-
-    // Why the session ended before its input did, where it did, on standard error: so a script that runs the desk knows.
-    fn told(&self) {
-        let runtime = self.desk.out.runtime();
-        if self.desk.out.is_lost() {
-            words::stopped(runtime, b"an answer could not be written\n");
-        } else if self.strict && self.desk.said == Said::Error {
-            words::stopped(runtime, b"the last line is an error\n");
+            self.session.asked();
+            self.session.flushed();
         }
     }
 }
@@ -252,19 +269,21 @@ fn main(rt: HostRuntime) {
         );
         return;
     }
-    let mut desk = Desk::new(rt);
-    desk.spoken = !w.plain;
-    let mut session = Session {
-        desk,
-        incoming: None,
-        lines: 0,
+    let mut clerk = Clerk::new(rt);
+    clerk.desk.spoken = !w.plain;
+    let mut input = Input {
+        session: Session {
+            clerk,
+            incoming: None,
+            lines: 0,
+            echo: w.echo,
+            strict: w.strict,
+            asking: words::is_typed(rt),
+            open: true,
+        },
         line: [0u8; 16002],
         length: 0,
-        echo: w.echo,
-        strict: w.strict,
-        asking: words::is_typed(rt),
-        open: true,
     };
-    session.run();
-    session.told();
+    input.run();
+    input.session.told();
 }

@@ -4,22 +4,27 @@
 #![tactic(auto)]
 
 use drawing::Out;
-use papers::Desk;
+use papers::Clerk;
 use std::io::Read;
 
-// The console, and what is reported; the number of lines ended so far; the present line, as far as it is kept, and how many bytes of it are; the examples
-// begun, and those that agreed, the present one not counted; the line at which the present one was first answered otherwise, where it was; and whether input
-// may follow.
+// The console, and what is reported; the number of lines ended so far; the examples begun, and those that agreed, the present one not counted; and the line
+// at which the present one was first answered otherwise, where it was.
 #[derive(Drop)]
 struct Session {
-    desk: Desk,
+    clerk: Clerk,
     report: Out,
     lines: u64,
-    line: [u8; 16002],
-    length: usize,
     examples: u64,
     agreed: u64,
     differs: Option<u64>,
+}
+
+// The session; the present line, as far as it is kept, and how many bytes of it are; and whether input may follow.
+#[derive(Drop)]
+struct Input {
+    session: Session,
+    line: [u8; 16002],
+    length: usize,
     open: bool,
 }
 
@@ -65,12 +70,12 @@ impl Session {
     // A command with its answer, behind the first `=`.
     fn tried(&mut self, line: &[u8]) {
         let mark = line.iter().position(|b| *b == b'=').unwrap_or(line.len());
-        self.desk.out = Out::standard(self.report.runtime());
+        self.clerk.out = Out::standard(self.report.runtime());
         // no example is written as text, so that there are no names
-        self.desk.names = [0u8; 16896];
-        console::answer(&mut self.desk, first(line, mark), self.lines);
+        self.clerk.desk.names = [0u8; 16896];
+        console::answer(&mut self.clerk, first(line, mark), self.lines);
         if !agrees(
-            self.desk.out.waiting(),
+            self.clerk.out.waiting(),
             line,
             behind(line, mark.saturating_add(1)),
         ) {
@@ -113,16 +118,30 @@ impl Session {
         }
     }
 
-    // The present line has ended. One that is too long is answered otherwise than anything beside it.
-    fn ended(&mut self) {
-        let line = self.line;
-        let kept = first(&line, self.length);
+    // A line has ended, of which so much is kept. One that is too long is answered otherwise than anything beside it.
+    fn ended(&mut self, kept: &[u8]) {
         self.lines = self.lines.saturating_add(1);
-        self.length = 0;
         match text::line_of(kept) {
             Some(length) => self.answered(first(kept, length)),
             None => self.differ(self.lines),
         }
+    }
+
+    // How many examples there were, and how many agreed.
+    fn put_count(&mut self) {
+        self.put_verdict();
+        self.report.put_number(self.examples);
+        self.report.put(b" examples, ");
+        self.report.put_number(self.agreed);
+        self.report.put(b" as expected\n");
+    }
+}
+
+impl Input {
+    // The present line has ended.
+    fn ended(&mut self) {
+        self.session.ended(first(&self.line, self.length));
+        self.length = 0;
     }
 
     // What was read, line by line.
@@ -138,7 +157,7 @@ impl Session {
     // Reads once.
     fn turn(&mut self) {
         let mut chunk = [0u8; 4096];
-        let mut stdin = self.report.runtime().stdin();
+        let mut stdin = self.session.report.runtime().stdin();
         let n = stdin.read(&mut chunk).unwrap_or(0);
         if n == 0 {
             self.open = false;
@@ -156,30 +175,23 @@ impl Session {
             self.turn();
         }
     }
-
-    // How many examples there were, and how many agreed.
-    fn put_count(&mut self) {
-        self.put_verdict();
-        self.report.put_number(self.examples);
-        self.report.put(b" examples, ");
-        self.report.put_number(self.agreed);
-        self.report.put(b" as expected\n");
-    }
 }
 
 fn main(rt: HostRuntime) {
-    let mut session = Session {
-        desk: Desk::new(rt),
-        report: Out::standard(rt),
-        lines: 0,
+    let mut input = Input {
+        session: Session {
+            clerk: Clerk::new(rt),
+            report: Out::standard(rt),
+            lines: 0,
+            examples: 0,
+            agreed: 0,
+            differs: None,
+        },
         line: [0u8; 16002],
         length: 0,
-        examples: 0,
-        agreed: 0,
-        differs: None,
         open: true,
     };
-    session.run();
-    session.put_count();
-    session.report.flush();
+    input.run();
+    input.session.put_count();
+    input.session.report.flush();
 }

@@ -1,5 +1,5 @@
 // Brakes: where orders are live or messages wait, a desk that speaks to a person does not drop them unless it is told to.
-use super::Desk;
+use super::{Clerk, Desk};
 use drawing::Out;
 use order::Order;
 
@@ -44,14 +44,14 @@ pub fn put_lost(out: &mut Out, live: usize, waiting: usize) {
 }
 
 // The answer of a desk that has brakes: what would be lost, and how to say that it may be.
-pub fn braked(desk: &mut Desk, number: u64, word: &[u8]) {
-    desk.out.put(b"error");
-    desk.out.put_next(number);
-    desk.out.put_byte(b' ');
-    let live = live_in(&desk.state.orders);
-    put_lost(&mut desk.out, live, desk.state.waiting);
-    desk.out.put(b": say ");
-    desk.out.put(word);
-    desk.out.put(b"! to drop them\n");
-    desk.fail();
+pub fn braked(clerk: &mut Clerk, number: u64, word: &[u8]) {
+    clerk.out.put(b"error");
+    clerk.out.put_next(number);
+    clerk.out.put_byte(b' ');
+    let live = live_in(&clerk.desk.state.orders);
+    put_lost(&mut clerk.out, live, clerk.desk.state.waiting);
+    clerk.out.put(b": say ");
+    clerk.out.put(word);
+    clerk.out.put(b"! to drop them\n");
+    clerk.desk.fail();
 }

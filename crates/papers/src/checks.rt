@@ -1,5 +1,5 @@
 // What may be wrong with the last plan, by the crate checking: the command check, and the warnings alone, for what follows a plan that is taken.
-use super::{Desk, first};
+use super::{Clerk, first};
 use checking::{put_check, put_warnings};
 use drawing::{Out, Plan};
 use plan::table::{LENGTH, Table};
@@ -50,13 +50,13 @@ fn put_checked(s: &[u8], names: &[u8; 16896], asked: bool, out: &mut Out) {
 }
 
 // The answer to a check of the last plan.
-pub fn check(desk: &mut Desk) {
-    let plan = first(&desk.bytes, desk.plan);
-    put_checked(plan, &desk.names, true, &mut desk.out);
+pub fn check(clerk: &mut Clerk) {
+    let plan = first(&clerk.desk.bytes, clerk.desk.plan);
+    put_checked(plan, &clerk.desk.names, true, &mut clerk.out);
 }
 
 // The warnings of the last plan alone; nothing where it has none, or is refused.
-pub fn warn(desk: &mut Desk) {
-    let plan = first(&desk.bytes, desk.plan);
-    put_checked(plan, &desk.names, false, &mut desk.out);
+pub fn warn(clerk: &mut Clerk) {
+    let plan = first(&clerk.desk.bytes, clerk.desk.plan);
+    put_checked(plan, &clerk.desk.names, false, &mut clerk.out);
 }

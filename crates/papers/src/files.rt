@@ -1,11 +1,11 @@
 // A state with its tally and its names in a file: save and open.
 use super::sums::sum_of;
 use super::writing::forget;
-use super::{Desk, Filed, Said, first, sealed, system};
+use super::{Clerk, Desk, Filed, Said, first, sealed, system};
+use arrayvec::ArrayVec;
 use drawing::Out;
 use machine::State;
 use plan::table::LENGTH;
-use std::alloc::AllocError;
 use std::fs::File;
 use store::Kept;
 
@@ -38,12 +38,16 @@ pub fn put_failed(out: &mut Out, line: u64, word: &[u8], errno: i32) {
     out.put_byte(b'\n');
 }
 
-// The name of a file with an ending behind it.
-pub fn name_with(runtime: HostRuntime, file: &[u8], ending: &[u8]) -> Result<Vec<u8>, AllocError> {
-    let mut name = Vec::new(runtime.alloc());
-    name.extend_from_slice(file)?;
-    name.extend_from_slice(ending)?;
-    Ok(name)
+// The name of a file with an ending behind it; or the reason, where it is too long.
+pub fn name_with(file: &[u8], ending: &[u8]) -> Result<ArrayVec<u8, 4095>, i32> {
+    let mut name = ArrayVec::new();
+    let whole = name.try_extend_from_slice(file).is_ok()
+        && name.try_extend_from_slice(ending).is_ok();
+    if whole {
+        Ok(name)
+    } else {
+        Err(system::LONG_NAME)
+    }
 }
 
 // All of a state is written, and is on disk, and the file is closed; or the reason why not.
@@ -92,28 +96,28 @@ fn folder_kept(runtime: HostRuntime, file: &[u8]) {
 
 // Saves a state by the name of its file, or tells why not.
 fn saved(runtime: HostRuntime, file: &[u8], packed: &[u8]) -> Result<(), i32> {
-    let mut new = name_with(runtime, file, b".XXXXXX").map_err(system::no_memory)?;
-    replaced(runtime, &mut new, file, packed)?;
+    let mut new = name_with(file, b".XXXXXX")?;
+    replaced(runtime, new.as_mut_slice(), file, packed)?;
     folder_kept(runtime, file);
     Ok(())
 }
 
 // What a save or an open comes to.
-fn told(desk: &mut Desk, number: u64, word: &[u8], done: Result<(), i32>) {
+fn told(clerk: &mut Clerk, number: u64, word: &[u8], done: Result<(), i32>) {
     match done {
-        Ok(()) => desk.out.put_refusal(word, 0),
+        Ok(()) => clerk.out.put_refusal(word, 0),
         Err(reason) => {
-            put_failed(&mut desk.out, number, word, reason);
-            desk.fail();
+            put_failed(&mut clerk.out, number, word, reason);
+            clerk.desk.fail();
         }
     }
 }
 
 // A desk whose state is in a file, if it is, by the sums of its name and of what it holds.
-fn filed(desk: &mut Desk, name: u64, held: u64) {
-    if desk.said == Said::Well {
-        desk.unsaved = false;
-        desk.filed = Some(Filed { name, held });
+fn filed(clerk: &mut Clerk, name: u64, held: u64) {
+    if clerk.desk.said == Said::Well {
+        clerk.desk.unsaved = false;
+        clerk.desk.filed = Some(Filed { name, held });
     }
 }
 
@@ -125,17 +129,17 @@ fn put_desk(desk: &Desk, file: &mut [u8; 29660]) {
 }
 
 // Saves the state, the tally and the names.
-pub fn save(desk: &mut Desk, file: &[u8], number: u64) {
+pub fn save(clerk: &mut Clerk, file: &[u8], number: u64) {
     // what was answered before is written first: where it cannot be, nothing is made lasting
-    desk.out.flush();
-    if desk.out.is_lost() {
+    clerk.out.flush();
+    if clerk.out.is_lost() {
         return;
     }
     let mut bytes = [0u8; 29660];
-    put_desk(desk, &mut bytes);
-    let done = saved(desk.out.runtime(), file, &bytes);
-    told(desk, number, b"save", done);
-    filed(desk, sum_of(file), sum_of(&bytes));
+    put_desk(&clerk.desk, &mut bytes);
+    let done = saved(clerk.out.runtime(), file, &bytes);
+    told(clerk, number, b"save", done);
+    filed(clerk, sum_of(file), sum_of(&bytes));
 }
 
 // Why nothing was read, where nothing was; a file in which nothing stands can be read.
@@ -161,22 +165,27 @@ pub(crate) fn copied(plan: &[u8; 4096], bytes: &mut [u8; 8000]) {
 }
 
 // What was read is nothing that was saved.
-fn put_foreign(desk: &mut Desk, number: u64) {
-    desk.error(number, b"cannot open: it holds no saved state");
+fn put_foreign(clerk: &mut Clerk, number: u64) {
+    clerk.error(number, b"cannot open: it holds no saved state");
 }
 
 // The desk goes on with a state that was kept. Its plan is the last plan, and the names stay where it is that of the state before.
-fn taken(desk: &mut Desk, kept: Kept, number: u64) {
+fn taken(clerk: &mut Clerk, kept: Kept, number: u64) {
     if kept.refused || !is_sound(kept.state) {
-        put_foreign(desk, number);
+        put_foreign(clerk, number);
         return;
     }
-    let before = desk.state;
-    copied(&kept.state.plan, &mut desk.bytes);
-    desk.plan = kept.state.length;
-    desk.change(kept.state, kept.tally);
-    desk.out.put_refusal(b"open", 0);
-    forget(before, &desk.bytes, desk.plan, &mut desk.names);
+    let before = clerk.desk.state;
+    copied(&kept.state.plan, &mut clerk.desk.bytes);
+    clerk.desk.plan = kept.state.length;
+    clerk.desk.change(kept.state, kept.tally);
+    clerk.out.put_refusal(b"open", 0);
+    forget(
+        before,
+        &clerk.desk.bytes,
+        clerk.desk.plan,
+        &mut clerk.desk.names,
+    );
 }
 
 // The state that bytes hold, of whatever version.
@@ -192,41 +201,41 @@ pub fn kept_front(bytes: &[u8]) -> Kept {
 }
 
 // What the bytes of a file come to: a file of the desk's own, with names; a state as hosts save it, which has none; or nothing that was saved.
-fn taken_from(desk: &mut Desk, file: &[u8], number: u64) {
+fn taken_from(clerk: &mut Clerk, file: &[u8], number: u64) {
     if sealed::is_sealed(file) {
-        taken(desk, kept_front(file), number);
-        if desk.said == Said::Well {
-            sealed::take_names(file, &mut desk.names);
+        taken(clerk, kept_front(file), number);
+        if clerk.desk.said == Said::Well {
+            sealed::take_names(file, &mut clerk.desk.names);
         }
         return;
     }
     let kept = kept_in(file);
     if kept.refused && sealed::begins_as_state(file) {
-        desk.error(
+        clerk.error(
             number,
             b"cannot open: it was cut or changed since it was saved",
         );
     } else {
-        taken(desk, kept, number);
+        taken(clerk, kept, number);
     }
 }
 
 // What a file that was opened holds becomes the state, the tally and the names; `file` is the sum of its name.
-fn read(desk: &mut Desk, opened: File, file: u64, number: u64) {
+fn read(clerk: &mut Clerk, opened: File, file: u64, number: u64) {
     let mut held = [0u8; sealed::READ];
     let n = system::read_full(&opened, &mut held);
     if let Err(reason) = readable(&opened, n) {
-        return told(desk, number, b"open", Err(reason));
+        return told(clerk, number, b"open", Err(reason));
     }
     let seen = sum_of(&held[..n]);
-    taken_from(desk, &held[..n], number);
-    filed(desk, file, seen);
+    taken_from(clerk, &held[..n], number);
+    filed(clerk, file, seen);
 }
 
 // Opens a file that was saved.
-pub fn open(desk: &mut Desk, file: &[u8], number: u64) {
-    match system::open_read(desk.out.runtime(), file) {
-        Ok(opened) => read(desk, opened, sum_of(file), number),
-        Err(reason) => told(desk, number, b"open", Err(reason)),
+pub fn open(clerk: &mut Clerk, file: &[u8], number: u64) {
+    match system::open_read(clerk.out.runtime(), file) {
+        Ok(opened) => read(clerk, opened, sum_of(file), number),
+        Err(reason) => told(clerk, number, b"open", Err(reason)),
     }
 }

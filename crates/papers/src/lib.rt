@@ -43,23 +43,29 @@ pub struct Filed {
     pub held: u64,
 }
 
-// The state that orders run on, and the tally; the last plan, the first `plan` of some bytes, and its names; what is answered, and what the last answer came
-// to. Whether it answers with words, and has brakes; and whether this command has none. Whether something changed since the last save or open, and the file
-// of that, if there was one. Whether it was told to end.
-#[derive(Drop)]
+// The state that orders run on, and the tally; the last plan, the first `plan` of some bytes, and its names; and what the last answer came to. Whether it
+// answers with words, and has brakes; and whether this command has none. Whether something changed since the last save or open, and the file of that, if there
+// was one. Whether it was told to end.
+#[derive(Clone, Copy)]
 pub struct Desk {
     pub state: State,
     pub tally: Tally,
     pub bytes: [u8; 8000],
     pub plan: usize,
     pub names: [u8; 16896],
-    pub out: Out,
     pub said: Said,
     pub spoken: bool,
     pub bold: bool,
     pub unsaved: bool,
     pub filed: Option<Filed>,
     pub over: bool,
+}
+
+// Who answers at the desk: the desk, and what is answered.
+#[derive(Drop)]
+pub struct Clerk {
+    pub desk: Desk,
+    pub out: Out,
 }
 
 // The first bytes of some, so many of them; all where there are fewer.
@@ -69,7 +75,7 @@ pub(crate) fn first(bytes: &[u8], length: usize) -> &[u8] {
 
 impl Desk {
     // The desk as it begins: there is no plan, and it answers by numbers alone.
-    pub fn new(runtime: HostRuntime) -> Desk {
+    pub fn new() -> Desk {
         let loaded = machine::load(&[0u8; 1]);
         Desk {
             state: loaded.state,
@@ -77,7 +83,6 @@ impl Desk {
             bytes: [0u8; 8000],
             plan: 0,
             names: [0u8; 16896],
-            out: Out::standard(runtime),
             said: Said::Well,
             spoken: false,
             bold: false,
@@ -90,12 +95,6 @@ impl Desk {
     // The answer is an error, which is told elsewhere.
     pub fn fail(&mut self) {
         self.said = Said::Error;
-    }
-
-    // The answer is an error, for this reason.
-    pub fn error(&mut self, line: u64, reason: &[u8]) {
-        self.out.put_error(line, reason);
-        self.fail();
     }
 
     // The answer has the number of a refusal, 0 where nothing is refused.
@@ -112,5 +111,21 @@ impl Desk {
         self.tally = tally;
         self.said = Said::Well;
         self.unsaved = true;
+    }
+}
+
+impl Clerk {
+    // The clerk at a desk as it begins, who answers on standard output.
+    pub fn new(runtime: HostRuntime) -> Clerk {
+        Clerk {
+            desk: Desk::new(),
+            out: Out::standard(runtime),
+        }
+    }
+
+    // The answer is an error, for this reason.
+    pub fn error(&mut self, line: u64, reason: &[u8]) {
+        self.out.put_error(line, reason);
+        self.desk.fail();
     }
 }

@@ -1,6 +1,6 @@
 // The commands on plans: plan, show, draw and names. The last plan is the first `plan` bytes of `bytes`, accepted or refused.
 use super::writing::forget;
-use super::{Desk, first};
+use super::{Clerk, first};
 use drawing::{Out, Plan, put_drawing, put_names};
 use plan::table::{LENGTH, Table};
 use plan::{Accepted, Refusal};
@@ -86,40 +86,45 @@ fn put_show(s: &[u8], k: u32, out: &mut Out) {
 }
 
 // The last plan drawn, with what it is called.
-pub fn draw(desk: &mut Desk) {
-    let plan = first(&desk.bytes, desk.plan);
-    put_draw(plan, &desk.names, true, &mut desk.out);
+pub fn draw(clerk: &mut Clerk) {
+    let plan = first(&clerk.desk.bytes, clerk.desk.plan);
+    put_draw(plan, &clerk.desk.names, true, &mut clerk.out);
 }
 
 // What the last plan is called.
-pub fn names(desk: &mut Desk) {
-    let plan = first(&desk.bytes, desk.plan);
-    put_draw(plan, &desk.names, false, &mut desk.out);
+pub fn names(clerk: &mut Clerk) {
+    let plan = first(&clerk.desk.bytes, clerk.desk.plan);
+    put_draw(plan, &clerk.desk.names, false, &mut clerk.out);
 }
 
 // Activity k of the last plan.
-pub fn show(desk: &mut Desk, k: u32) {
-    let plan = first(&desk.bytes, desk.plan);
-    put_show(plan, k, &mut desk.out);
+pub fn show(clerk: &mut Clerk, k: u32) {
+    let plan = first(&clerk.desk.bytes, clerk.desk.plan);
+    put_show(plan, k, &mut clerk.out);
 }
 
 // The first bytes of the last plan, so many of them, are loaded: the desk is on a fresh state, with an empty tally.
-pub(crate) fn fresh(desk: &mut Desk, length: usize) {
-    let loaded = machine::load(first(&desk.bytes, length));
-    desk.plan = length;
-    desk.change(loaded.state, machine::no_tally());
-    desk.answer(loaded.refusal);
+pub(crate) fn fresh(clerk: &mut Clerk, length: usize) {
+    let loaded = machine::load(first(&clerk.desk.bytes, length));
+    clerk.desk.plan = length;
+    clerk.desk.change(loaded.state, machine::no_tally());
+    clerk.desk.answer(loaded.refusal);
 }
 
 // A plan in hexadecimal becomes the last plan, with a fresh state; what is no hexadecimal changes nothing.
-pub fn load(desk: &mut Desk, word: &[u8], number: u64) {
-    match text::decode(word, &mut desk.bytes) {
+pub fn load(clerk: &mut Clerk, word: &[u8], number: u64) {
+    match text::decode(word, &mut clerk.desk.bytes) {
         Ok(count) => {
-            forget(desk.state, &desk.bytes, count, &mut desk.names);
-            put_plan(first(&desk.bytes, count), &mut desk.out);
-            fresh(desk, count);
+            forget(
+                clerk.desk.state,
+                &clerk.desk.bytes,
+                count,
+                &mut clerk.desk.names,
+            );
+            put_plan(first(&clerk.desk.bytes, count), &mut clerk.out);
+            fresh(clerk, count);
         }
-        Err(HexError::Long) => desk.error(number, b"more than 8000 bytes"),
-        Err(HexError::Bad) => desk.error(number, b"not hexadecimal"),
+        Err(HexError::Long) => clerk.error(number, b"more than 8000 bytes"),
+        Err(HexError::Bad) => clerk.error(number, b"not hexadecimal"),
     }
 }

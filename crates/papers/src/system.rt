@@ -3,7 +3,6 @@
 ghost use Rattle.std.specs.Prelude.{◌≤◌, length, IfOk};
 
 use drawing::{failure, write_all};
-use std::alloc::AllocError;
 use std::fs;
 use std::fs::{File, OpenOptions};
 use std::io::Read;
@@ -22,11 +21,6 @@ pub const FOLDER: i32 = 21;
 const NO_NAME: i32 = 22;
 
 pub const LONG_NAME: i32 = 36;
-
-// No memory is left, as the system numbers it.
-pub fn no_memory(_: AllocError) -> i32 {
-    12
-}
 
 // A name as the runtime takes it, or why it takes it not.
 fn named(name: &[u8]) -> Result<&str, i32> {

@@ -6,7 +6,7 @@ use super::places::put_place;
 use super::plans::fresh;
 use super::reasons::put_why;
 use super::rules::put_rule;
-use super::{Desk, Said, first};
+use super::{Clerk, Said, first};
 use drawing::Out;
 use machine::State;
 use plan::Refusal;
@@ -57,10 +57,10 @@ fn put_written(out: &mut Out, plan: &[u8]) {
 }
 
 // The plan that runs, by other names: nothing but these changes.
-fn renamed(desk: &mut Desk, text: &[u8], plan: &[u8]) {
-    sheet::names_of(text, &mut desk.names);
-    put_written(&mut desk.out, plan);
-    desk.said = Said::Renamed;
+fn renamed(clerk: &mut Clerk, text: &[u8], plan: &[u8]) {
+    sheet::names_of(text, &mut clerk.desk.names);
+    put_written(&mut clerk.out, plan);
+    clerk.desk.said = Said::Renamed;
 }
 
 // Whether a plan that was written runs already.
@@ -69,36 +69,42 @@ fn is_running(state: State, plan: &[u8; 4096], length: usize) -> bool {
 }
 
 // A plan that was written, where the desk speaks to a person: what runs is not dropped by the way.
-fn written_with_care(desk: &mut Desk, text: &[u8], plan: &[u8; 4096], length: usize, number: u64) {
-    if is_running(desk.state, plan, length) {
-        renamed(desk, text, first(plan, length));
-    } else if is_braked(desk) {
-        braked(desk, number, b"write");
+fn written_with_care(
+    clerk: &mut Clerk,
+    text: &[u8],
+    plan: &[u8; 4096],
+    length: usize,
+    number: u64,
+) {
+    if is_running(clerk.desk.state, plan, length) {
+        renamed(clerk, text, first(plan, length));
+    } else if is_braked(&clerk.desk) {
+        braked(clerk, number, b"write");
     } else {
-        written(desk, text, plan, length);
+        written(clerk, text, plan, length);
     }
 }
 
 // A plan that was written is the last plan from then on, with a fresh state.
-fn written(desk: &mut Desk, text: &[u8], plan: &[u8; 4096], length: usize) {
-    copied(plan, &mut desk.bytes);
-    sheet::names_of(text, &mut desk.names);
-    put_written(&mut desk.out, first(plan, length));
-    fresh(desk, length);
+fn written(clerk: &mut Clerk, text: &[u8], plan: &[u8; 4096], length: usize) {
+    copied(plan, &mut clerk.desk.bytes);
+    sheet::names_of(text, &mut clerk.desk.names);
+    put_written(&mut clerk.out, first(plan, length));
+    fresh(clerk, length);
 }
 
 // A text that is refused, and, for a person, by which rule where that is not told by the number.
-fn ruled(desk: &mut Desk, text: &[u8], rows: &[u32; 87100], lines: &[u32; 4355], row: usize) {
-    if desk.spoken && desk.said == Said::Refused(5) {
-        desk.out.go_on();
-        put_rule(&mut desk.out, text, rows, lines, row);
-        desk.out.put_byte(b'\n');
+fn ruled(clerk: &mut Clerk, text: &[u8], rows: &[u32; 87100], lines: &[u32; 4355], row: usize) {
+    if clerk.desk.spoken && clerk.desk.said == Said::Refused(5) {
+        clerk.out.go_on();
+        put_rule(&mut clerk.out, text, rows, lines, row);
+        clerk.out.put_byte(b'\n');
     }
 }
 
 // The rows of a text are written.
 fn write_rows(
-    desk: &mut Desk,
+    clerk: &mut Clerk,
     text: &[u8],
     number: u64,
     rows: &[u32; 87100],
@@ -109,10 +115,10 @@ fn write_rows(
     let rows_read = rows.get(..length).unwrap_or(rows);
     match writer::write(rows_read, &mut plan) {
         Ok(length) => {
-            if desk.spoken {
-                written_with_care(desk, text, &plan, length, number);
+            if clerk.desk.spoken {
+                written_with_care(clerk, text, &plan, length, number);
             } else {
-                written(desk, text, &plan, length);
+                written(clerk, text, &plan, length);
             }
         }
         Err(
@@ -121,13 +127,13 @@ fn write_rows(
                 place,
             },
         ) => {
-            desk.answer(refusal);
+            clerk.desk.answer(refusal);
             if refusal == 21 {
-                put_disagreeing(text, number, rows, lines, place, &mut desk.out);
+                put_disagreeing(text, number, rows, lines, place, &mut clerk.out);
             } else {
                 let line = line_after(number, u64::from(line_of(lines, place)));
-                desk.out.put_pair(b"write", u64::from(refusal), line);
-                ruled(desk, text, rows, lines, place);
+                clerk.out.put_pair(b"write", u64::from(refusal), line);
+                ruled(clerk, text, rows, lines, place);
             }
         }
     }
@@ -135,21 +141,21 @@ fn write_rows(
 
 // The plan that a text says becomes the last plan, with a fresh state; where it says none, what is wrong is told, and nothing changes. The text
 // begins in the line after `number`.
-pub fn write(desk: &mut Desk, text: &[u8], number: u64) {
+pub fn write(clerk: &mut Clerk, text: &[u8], number: u64) {
     let mut rows = [0u32; 87100];
     let mut lines = [0u32; 4355];
     match sheet::read(text, &mut rows, &mut lines) {
-        Ok(length) => write_rows(desk, text, number, &rows, length, &lines),
+        Ok(length) => write_rows(clerk, text, number, &rows, length, &lines),
         Err(wrong) => {
             put_wrong(
-                &mut desk.out,
+                &mut clerk.out,
                 line_after(number, u64::from(wrong.line)),
                 wrong.reason,
                 text,
                 wrong.place,
-                desk.spoken,
+                clerk.desk.spoken,
             );
-            desk.fail();
+            clerk.desk.fail();
         }
     }
 }

@@ -2,7 +2,7 @@
 use drawing::Out;
 use machine::State;
 use order::Order;
-use papers::Desk;
+use papers::Clerk;
 
 // The variable that `v0`, `v1` and so on stand for, where a word is one of these.
 fn variable_by_number(word: &[u8]) -> Option<usize> {
@@ -49,23 +49,29 @@ fn put_orders(
 }
 
 // No live order has it.
-fn none(desk: &mut Desk, word: &[u8], value: u32, number: u64) {
-    desk.out.put(b"error");
-    desk.out.put_next(number);
-    desk.out.put(b" no live order has ");
-    desk.out.put(word);
-    desk.out.put_next(value as u64);
-    desk.out.put_byte(b'\n');
-    desk.fail();
+fn none(clerk: &mut Clerk, word: &[u8], value: u32, number: u64) {
+    clerk.out.put(b"error");
+    clerk.out.put_next(number);
+    clerk.out.put(b" no live order has ");
+    clerk.out.put(word);
+    clerk.out.put_next(value as u64);
+    clerk.out.put_byte(b'\n');
+    clerk.desk.fail();
 }
 
 // The orders whose variable has this value.
-pub(crate) fn order_by(desk: &mut Desk, word: &[u8], value: u32, number: u64) {
-    let found = match variable_of(&desk.names, word) {
-        Some(variable) => put_orders(&mut desk.out, &desk.names, desk.state, variable, value),
+pub(crate) fn order_by(clerk: &mut Clerk, word: &[u8], value: u32, number: u64) {
+    let found = match variable_of(&clerk.desk.names, word) {
+        Some(variable) => put_orders(
+            &mut clerk.out,
+            &clerk.desk.names,
+            clerk.desk.state,
+            variable,
+            value,
+        ),
         None => false,
     };
     if !found {
-        none(desk, word, value, number);
+        none(clerk, word, value, number);
     }
 }

@@ -1,7 +1,7 @@
 // Plans and files, with brakes: what is live is not dropped by the way, and what is not saved is told.
 use drawing::Out;
 use machine::State;
-use papers::{Desk, Said, braked, is_braked, live_in, put_lost};
+use papers::{Clerk, Desk, Said, braked, is_braked, live_in, put_lost};
 use plan::table::LENGTH;
 use plan::{Accepted, Refusal};
 use sayings::put_refused;
@@ -23,28 +23,28 @@ fn put_accepted(out: &mut Out, activities: usize) {
 }
 
 // What the last answer came to, in words behind it, and what the plan is warned of: an error says it all.
-fn told(desk: &mut Desk) {
-    match desk.said {
+fn told(clerk: &mut Clerk) {
+    match clerk.desk.said {
         Said::Well => {
-            desk.out.go_on();
-            put_accepted(&mut desk.out, activities_of(desk.state));
-            papers::warn(desk);
+            clerk.out.go_on();
+            put_accepted(&mut clerk.out, activities_of(clerk.desk.state));
+            papers::warn(clerk);
         }
         Said::Refused(refusal) => {
-            desk.out.go_on();
-            put_refused(&mut desk.out, refusal);
+            clerk.out.go_on();
+            put_refused(&mut clerk.out, refusal);
         }
         Said::Error | Said::Renamed => {}
     }
 }
 
 // A plan that is refused changes nothing: it is only said why.
-fn turned_down(desk: &mut Desk, refusal: Refusal) {
+fn turned_down(clerk: &mut Clerk, refusal: Refusal) {
     let Refusal { number, place } = refusal;
-    desk.out.put_pair(b"plan", u64::from(number), place as u64);
-    desk.out.go_on();
-    put_refused(&mut desk.out, number);
-    desk.answer(number);
+    clerk.out.put_pair(b"plan", u64::from(number), place as u64);
+    clerk.out.go_on();
+    put_refused(&mut clerk.out, number);
+    clerk.desk.answer(number);
 }
 
 // Why a word of hexadecimal is no plan, where it is none; what is no hexadecimal is left to the console to answer.
@@ -60,90 +60,90 @@ fn refusal_of(word: &[u8]) -> Option<Refusal> {
 }
 
 // A plan in hexadecimal.
-pub(crate) fn plan(desk: &mut Desk, word: &[u8], number: u64) {
-    if is_braked(desk) {
-        braked(desk, number, b"plan");
+pub(crate) fn plan(clerk: &mut Clerk, word: &[u8], number: u64) {
+    if is_braked(&clerk.desk) {
+        braked(clerk, number, b"plan");
     } else if let Some(refusal) = refusal_of(word) {
-        turned_down(desk, refusal);
+        turned_down(clerk, refusal);
     } else {
-        papers::load(desk, word, number);
-        told(desk);
+        papers::load(clerk, word, number);
+        told(clerk);
     }
 }
 
 // A padded plan.
-pub(crate) fn mend(desk: &mut Desk, word: &[u8], number: u64) {
-    if is_braked(desk) {
-        braked(desk, number, b"mend");
+pub(crate) fn mend(clerk: &mut Clerk, word: &[u8], number: u64) {
+    if is_braked(&clerk.desk) {
+        braked(clerk, number, b"mend");
     } else {
-        papers::mend(desk, word, number);
-        told(desk);
+        papers::mend(clerk, word, number);
+        told(clerk);
     }
 }
 
 // What there is to lose.
-fn put_what(desk: &mut Desk) {
-    let live = live_in(&desk.state.orders);
-    let waiting = desk.state.waiting;
+fn put_what(clerk: &mut Clerk) {
+    let live = live_in(&clerk.desk.state.orders);
+    let waiting = clerk.desk.state.waiting;
     if live == 0 && waiting == 0 {
-        desk.out.put(b"no order is live, no message waits");
+        clerk.out.put(b"no order is live, no message waits");
     } else {
-        put_lost(&mut desk.out, live, waiting);
+        put_lost(&mut clerk.out, live, waiting);
     }
 }
 
 // What a file holds, behind its numbers.
-fn filed(desk: &mut Desk, front: &[u8], file: &[u8]) {
-    if desk.said != Said::Well {
+fn filed(clerk: &mut Clerk, front: &[u8], file: &[u8]) {
+    if clerk.desk.said != Said::Well {
         return;
     }
-    desk.out.go_on();
-    desk.out.put(front);
-    desk.out.put(file);
-    desk.out.put(b": ");
-    put_what(desk);
-    desk.out.put_byte(b'\n');
+    clerk.out.go_on();
+    clerk.out.put(front);
+    clerk.out.put(file);
+    clerk.out.put(b": ");
+    put_what(clerk);
+    clerk.out.put_byte(b'\n');
 }
 
 // Saves the state.
-pub(crate) fn save(desk: &mut Desk, file: &[u8], number: u64) {
-    care::save(desk, file, number);
-    filed(desk, b" - saved in ", file);
+pub(crate) fn save(clerk: &mut Clerk, file: &[u8], number: u64) {
+    care::save(clerk, file, number);
+    filed(clerk, b" - saved in ", file);
 }
 
 // Writes a page.
-pub(crate) fn page(desk: &mut Desk, file: &[u8], number: u64) {
-    care::page(desk, file, number);
-    if desk.spoken {
-        filed(desk, b" - a page in ", file);
+pub(crate) fn page(clerk: &mut Clerk, file: &[u8], number: u64) {
+    care::page(clerk, file, number);
+    if clerk.desk.spoken {
+        filed(clerk, b" - a page in ", file);
     }
 }
 
 // Opens a file.
-pub(crate) fn open(desk: &mut Desk, file: &[u8], number: u64) {
-    if is_braked(desk) {
-        braked(desk, number, b"open");
+pub(crate) fn open(clerk: &mut Clerk, file: &[u8], number: u64) {
+    if is_braked(&clerk.desk) {
+        braked(clerk, number, b"open");
     } else {
-        papers::open(desk, file, number);
-        filed(desk, b" - opened ", file);
-        if desk.said == Said::Well {
-            papers::warn(desk);
+        papers::open(clerk, file, number);
+        filed(clerk, b" - opened ", file);
+        if clerk.desk.said == Said::Well {
+            papers::warn(clerk);
         }
     }
 }
 
 // A plan as text.
-pub fn written(desk: &mut Desk, text: &[u8], number: u64) {
-    papers::write(desk, text, number);
-    if !desk.spoken {
+pub fn written(clerk: &mut Clerk, text: &[u8], number: u64) {
+    papers::write(clerk, text, number);
+    if !clerk.desk.spoken {
         return;
     }
-    if desk.said == Said::Renamed {
-        desk.out.go_on();
-        desk.out.put(b" - the plan that runs: its names are taken, nothing else changes\n");
-        papers::warn(desk);
+    if clerk.desk.said == Said::Renamed {
+        clerk.out.go_on();
+        clerk.out.put(b" - the plan that runs: its names are taken, nothing else changes\n");
+        papers::warn(clerk);
     } else {
-        told(desk);
+        told(clerk);
     }
 }
 
@@ -154,23 +154,24 @@ pub fn is_at_risk(desk: &Desk) -> bool {
 }
 
 // What would be lost.
-pub fn put_risk(desk: &mut Desk) {
-    desk.out.put(b"not saved: ");
-    put_what(desk);
+pub fn put_risk(clerk: &mut Clerk) {
+    clerk.out.put(b"not saved: ");
+    put_what(clerk);
 }
 
 // Ends, where nothing would be lost.
-pub(crate) fn quit(desk: &mut Desk, number: u64) {
-    if desk.spoken && !desk.bold && is_at_risk(desk) {
-        desk.out.put(b"error");
-        desk.out.put_next(number);
-        desk.out.put_byte(b' ');
-        put_risk(desk);
-        desk.out
+pub(crate) fn quit(clerk: &mut Clerk, number: u64) {
+    if clerk.desk.spoken && !clerk.desk.bold && is_at_risk(&clerk.desk) {
+        clerk.out.put(b"error");
+        clerk.out.put_next(number);
+        clerk.out.put_byte(b' ');
+        put_risk(clerk);
+        clerk
+            .out
             .put(b": save FILE, or say quit! to end all the same\n");
-        desk.fail();
+        clerk.desk.fail();
         return;
     }
-    desk.over = true;
-    desk.unsaved = false;
+    clerk.desk.over = true;
+    clerk.desk.unsaved = false;
 }

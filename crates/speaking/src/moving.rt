@@ -1,7 +1,7 @@
 // Steps and messages that go out, each told in words behind its numbers: step, run, go, collect and drop.
 use drawing::Out;
 use machine::{Collected, Message, State, Step, Tally};
-use papers::{Desk, Said};
+use papers::{Clerk, Said};
 use plan::table::LENGTH;
 use run::Ran;
 use sayings::put_refused;
@@ -38,16 +38,16 @@ fn put_told(out: &mut Out, names: &[u8; 16896], state: State, x: Step) {
 }
 
 // Takes a step.
-pub(crate) fn step(desk: &mut Desk, choice: u32) {
-    let before = desk.state;
-    let r = step::take_step(before, choice as usize, desk.tally);
+pub(crate) fn step(clerk: &mut Clerk, choice: u32) {
+    let before = clerk.desk.state;
+    let r = step::take_step(before, choice as usize, clerk.desk.tally);
     let x = r.answer;
-    console::put_step(&mut desk.out, x);
-    put_told(&mut desk.out, &desk.names, before, x);
+    console::put_step(&mut clerk.out, x);
+    put_told(&mut clerk.out, &clerk.desk.names, before, x);
     if x.refusal == 0 {
-        desk.change(r.state, r.tally);
+        clerk.desk.change(r.state, r.tally);
     } else {
-        desk.answer(x.refusal);
+        clerk.desk.answer(x.refusal);
     }
 }
 
@@ -89,36 +89,37 @@ fn put_turns(out: &mut Out, names: &[u8; 16896], state: State, tally: Tally, cho
 }
 
 // Takes steps by these choices, and tells them.
-fn ran(desk: &mut Desk, word: &[u8], choices: &[usize], budget: u32) {
-    let before = desk.state;
-    let counted = desk.tally;
+fn ran(clerk: &mut Clerk, word: &[u8], choices: &[usize], budget: u32) {
+    let before = clerk.desk.state;
+    let counted = clerk.desk.tally;
     let mut left = budget as usize;
     let r = run::run(before, choices, &mut left, counted);
-    desk.out
+    clerk
+        .out
         .put_pair(word, r.taken as u64, u64::from(r.refusal));
-    if desk.spoken {
+    if clerk.desk.spoken {
         let taken = choices.get(..r.taken).unwrap_or(choices);
-        put_count(&mut desk.out, r);
-        put_turns(&mut desk.out, &desk.names, before, counted, taken);
+        put_count(&mut clerk.out, r);
+        put_turns(&mut clerk.out, &clerk.desk.names, before, counted, taken);
     }
     if r.taken == 0 {
-        desk.answer(r.refusal);
+        clerk.desk.answer(r.refusal);
     } else {
-        desk.change(r.state, r.tally);
+        clerk.desk.change(r.state, r.tally);
     }
 }
 
 // Takes steps by a budget and up to 1,000 choices.
-pub(crate) fn run(desk: &mut Desk, line: &[u8], from: usize, number: u64) {
+pub(crate) fn run(clerk: &mut Clerk, line: &[u8], from: usize, number: u64) {
     match console::running(line, from) {
-        Ok((budget, choices)) => ran(desk, b"run", choices.as_slice(), budget),
-        Err(why) => console::wrong(desk, number, why),
+        Ok((budget, choices)) => ran(clerk, b"run", choices.as_slice(), budget),
+        Err(why) => console::wrong(clerk, number, why),
     }
 }
 
 // Takes the first choice again and again, up to 1,000 times.
-pub(crate) fn go(desk: &mut Desk, limit: u32) {
-    ran(desk, b"go", &[0usize; 1000], limit);
+pub(crate) fn go(clerk: &mut Clerk, limit: u32) {
+    ran(clerk, b"go", &[0usize; 1000], limit);
 }
 
 // A message that goes out, told.
@@ -158,43 +159,44 @@ fn put_handed(
 }
 
 // A message that a command with this word handed out, or why it did not.
-fn handed(desk: &mut Desk, word: &[u8], c: Collected, dropped: bool) {
-    console::put_collected(&mut desk.out, word, c);
-    if desk.spoken {
+fn handed(clerk: &mut Clerk, word: &[u8], c: Collected, dropped: bool) {
+    console::put_collected(&mut clerk.out, word, c);
+    if clerk.desk.spoken {
         put_handed(
-            &mut desk.out,
-            &desk.names,
-            desk.state,
+            &mut clerk.out,
+            &clerk.desk.names,
+            clerk.desk.state,
             c.refusal,
             c.message,
             dropped,
         );
     }
     if c.refusal == 0 {
-        desk.change(c.state, desk.tally);
+        let tally = clerk.desk.tally;
+        clerk.desk.change(c.state, tally);
     } else {
-        desk.answer(c.refusal);
+        clerk.desk.answer(c.refusal);
     }
 }
 
 // Hands out the oldest message that leaves.
-pub(crate) fn collect(desk: &mut Desk) {
-    let c = mail::collect(desk.state);
-    handed(desk, b"collect", c, false);
+pub(crate) fn collect(clerk: &mut Clerk) {
+    let c = mail::collect(clerk.desk.state);
+    handed(clerk, b"collect", c, false);
 }
 
 // Hands out the message at a place, whoever it is for.
-pub(crate) fn drop_at(desk: &mut Desk, place: u32) {
-    let c = mail::drop_at(desk.state, place as usize);
-    handed(desk, b"drop", c, true);
+pub(crate) fn drop_at(clerk: &mut Clerk, place: u32) {
+    let c = mail::drop_at(clerk.desk.state, place as usize);
+    handed(clerk, b"drop", c, true);
 }
 
 // Hands out all that go out, up to the refusal that says that there are no more.
-pub(crate) fn collect_all(desk: &mut Desk) {
+pub(crate) fn collect_all(clerk: &mut Clerk) {
     for _ in 0..65 {
-        collect(desk);
-        if desk.said != Said::Well {
-            desk.said = Said::Well;
+        collect(clerk);
+        if clerk.desk.said != Said::Well {
+            clerk.desk.said = Said::Well;
             return;
         }
     }

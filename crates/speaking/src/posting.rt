@@ -4,7 +4,7 @@ use commands::Trouble;
 use drawing::Out;
 use machine::{Message, State};
 use names::NameError;
-use papers::Desk;
+use papers::Clerk;
 use phrases::{has_more, part};
 use plan::table::{LENGTH, Table};
 use text::Word;
@@ -72,13 +72,10 @@ fn reply_of<'a>(names: &[u8; 16896], line: &'a [u8], w: Word) -> Result<u32, Unr
 fn posting<'a>(names: &[u8; 16896], line: &'a [u8], from: usize) -> Result<Message, Unread<'a>> {
     let reply = console::reply_in(line, from);
     let numbers = numbers_of(names, console::before(line, reply.from), from)?;
-    match console::message_of(numbers.as_slice(), 0) {
-        Ok(m) => Ok(Message {
-            reply: reply_of(names, line, reply)?,
-            ..m
-        }),
-        Err(why) => Err(Unread::Wrong(why)),
+    if numbers.len() < 2 {
+        return Err(Unread::Wrong(Trouble::Missing));
     }
+    Ok(console::message_of(numbers.as_slice(), reply_of(names, line, reply)?))
 }
 
 // What becomes of a message that waits now.
@@ -101,36 +98,37 @@ fn put_waits(out: &mut Out, names: &[u8; 16896], state: State, m: Message) {
     }
 }
 
-fn posted(desk: &mut Desk, m: Message) {
-    let p = mail::post(desk.state, m);
-    desk.out.put_refusal(b"post", p.refusal);
-    desk.out.go_on();
+fn posted(clerk: &mut Clerk, m: Message) {
+    let p = mail::post(clerk.desk.state, m);
+    clerk.out.put_refusal(b"post", p.refusal);
+    clerk.out.go_on();
     if p.refusal != 0 {
-        sayings::put_refused(&mut desk.out, p.refusal);
-        desk.answer(p.refusal);
+        sayings::put_refused(&mut clerk.out, p.refusal);
+        clerk.desk.answer(p.refusal);
         return;
     }
-    desk.out.put(b" - ");
-    put_waits(&mut desk.out, &desk.names, desk.state, m);
-    desk.out.put_byte(b'\n');
-    desk.change(p.state, desk.tally);
+    clerk.out.put(b" - ");
+    put_waits(&mut clerk.out, &clerk.desk.names, clerk.desk.state, m);
+    clerk.out.put_byte(b'\n');
+    let tally = clerk.desk.tally;
+    clerk.desk.change(p.state, tally);
 }
 
 // A name that nobody has.
-fn unnamed(desk: &mut Desk, number: u64, word: &[u8]) {
-    desk.out.put(b"error");
-    desk.out.put_next(number);
-    desk.out.put(b" no such name: ");
-    desk.out.put(word);
-    desk.out.put_byte(b'\n');
-    desk.fail();
+fn unnamed(clerk: &mut Clerk, number: u64, word: &[u8]) {
+    clerk.out.put(b"error");
+    clerk.out.put_next(number);
+    clerk.out.put(b" no such name: ");
+    clerk.out.put(word);
+    clerk.out.put_byte(b'\n');
+    clerk.desk.fail();
 }
 
 // Posts a message.
-pub(crate) fn post(desk: &mut Desk, line: &[u8], from: usize, number: u64) {
-    match posting(&desk.names, line, from) {
-        Ok(m) => posted(desk, m),
-        Err(Unread::Wrong(why)) => console::wrong(desk, number, why),
-        Err(Unread::Unnamed(word)) => unnamed(desk, number, word),
+pub(crate) fn post(clerk: &mut Clerk, line: &[u8], from: usize, number: u64) {
+    match posting(&clerk.desk.names, line, from) {
+        Ok(m) => posted(clerk, m),
+        Err(Unread::Wrong(why)) => console::wrong(clerk, number, why),
+        Err(Unread::Unnamed(word)) => unnamed(clerk, number, word),
     }
 }

@@ -2,16 +2,16 @@
 use super::keeping::activities_of;
 use drawing::Out;
 use machine::{Message, State, Tally};
-use papers::{Desk, Said};
+use papers::{Clerk, Desk, Said};
 use plan::table::{LENGTH, Table};
 use sayings::put_refused;
 
 // A state without a plan has no such thing.
-fn planless(desk: &mut Desk, word: &[u8]) {
-    desk.out.put_refusal(word, 17);
-    desk.out.go_on();
-    put_refused(&mut desk.out, 17);
-    desk.answer(17);
+fn planless(clerk: &mut Clerk, word: &[u8]) {
+    clerk.out.put_refusal(word, 17);
+    clerk.out.go_on();
+    put_refused(&mut clerk.out, 17);
+    clerk.desk.answer(17);
 }
 
 fn has_plan(desk: &Desk) -> bool {
@@ -19,31 +19,31 @@ fn has_plan(desk: &Desk) -> bool {
 }
 
 // A command whose answer is words already.
-pub(crate) fn planned(desk: &mut Desk, word: &[u8], line: &[u8], number: u64) {
-    if has_plan(desk) {
-        console::answer(desk, line, number);
+pub(crate) fn planned(clerk: &mut Clerk, word: &[u8], line: &[u8], number: u64) {
+    if has_plan(&clerk.desk) {
+        console::answer(clerk, line, number);
     } else {
-        planless(desk, word);
+        planless(clerk, word);
     }
 }
 
 // The drawing, or why there is none.
-pub(crate) fn drawn(desk: &mut Desk, line: &[u8], number: u64) {
-    console::answer(desk, line, number);
-    if !has_plan(desk) {
-        desk.out.go_on();
-        desk.out.put(b" - there is no plan: write one\n");
-        desk.answer(2);
+pub(crate) fn drawn(clerk: &mut Clerk, line: &[u8], number: u64) {
+    console::answer(clerk, line, number);
+    if !has_plan(&clerk.desk) {
+        clerk.out.go_on();
+        clerk.out.put(b" - there is no plan: write one\n");
+        clerk.desk.answer(2);
     }
 }
 
 // The bytes of an activity, or why there are none.
-pub(crate) fn shown(desk: &mut Desk, k: u32, line: &[u8], number: u64) {
-    drawn(desk, line, number);
-    if desk.said == Said::Well && activities_of(desk.state) <= k as usize {
-        desk.out.go_on();
-        put_refused(&mut desk.out, 16);
-        desk.answer(16);
+pub(crate) fn shown(clerk: &mut Clerk, k: u32, line: &[u8], number: u64) {
+    drawn(clerk, line, number);
+    if clerk.desk.said == Said::Well && activities_of(clerk.desk.state) <= k as usize {
+        clerk.out.go_on();
+        put_refused(&mut clerk.out, 16);
+        clerk.desk.answer(16);
     }
 }
 
@@ -63,14 +63,14 @@ fn put_choices(out: &mut Out, many: usize, held: bool) {
 }
 
 // What is offered, as numbers, with how much that is.
-pub(crate) fn offer(desk: &mut Desk, line: &[u8], number: u64) {
-    if !has_plan(desk) {
-        planless(desk, b"offer");
+pub(crate) fn offer(clerk: &mut Clerk, line: &[u8], number: u64) {
+    if !has_plan(&clerk.desk) {
+        planless(clerk, b"offer");
         return;
     }
-    let o = offer::offers(desk.state);
-    console::answer(desk, line, number);
-    put_choices(&mut desk.out, o.many, o.held);
+    let o = offer::offers(clerk.desk.state);
+    console::answer(clerk, line, number);
+    put_choices(&mut clerk.out, o.many, o.held);
 }
 
 fn put_counts(out: &mut Out, tally: Tally) {
@@ -88,9 +88,9 @@ fn put_counts(out: &mut Out, tally: Tally) {
     out.put(b" left\n");
 }
 
-pub(crate) fn tally(desk: &mut Desk) {
-    console::put_tally(&mut desk.out, desk.tally);
-    put_counts(&mut desk.out, desk.tally);
+pub(crate) fn tally(clerk: &mut Clerk) {
+    console::put_tally(&mut clerk.out, clerk.desk.tally);
+    put_counts(&mut clerk.out, clerk.desk.tally);
 }
 
 // What becomes of a message.
@@ -134,9 +134,9 @@ fn put_waiting(out: &mut Out, names: &[u8; 16896], state: State) {
 }
 
 // The messages that wait, a line for each, and a blank line.
-pub(crate) fn waiting(desk: &mut Desk) {
-    desk.out.put(b"waiting");
-    desk.out.put_next(desk.state.waiting as u64);
-    desk.out.put_byte(b'\n');
-    put_waiting(&mut desk.out, &desk.names, desk.state);
+pub(crate) fn waiting(clerk: &mut Clerk) {
+    clerk.out.put(b"waiting");
+    clerk.out.put_next(clerk.desk.state.waiting as u64);
+    clerk.out.put_byte(b'\n');
+    put_waiting(&mut clerk.out, &clerk.desk.names, clerk.desk.state);
 }

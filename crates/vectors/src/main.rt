@@ -22,13 +22,18 @@ enum Verdict {
     Unreadable,
 }
 
-// The count of lines, of vectors read and of those that agree; the present line, as far as it is kept, and how many bytes of it are; and whether input may
-// follow.
-#[derive(Drop)]
+// The count of lines, of vectors read and of those that agree.
+#[derive(Clone, Copy)]
 struct Tally {
     lines: u64,
     vectors: u64,
     agree: u64,
+}
+
+// The tally; the present line, as far as it is kept, and how many bytes of it are; and whether input may follow.
+#[derive(Drop)]
+struct Input {
+    tally: Tally,
     line: [u8; 16002],
     length: usize,
     open: bool,
@@ -128,16 +133,21 @@ impl Tally {
         }
     }
 
-    // The present line has ended.
-    fn end(&mut self, rt: HostRuntime) {
-        let line = self.line;
-        let kept = first(&line, self.length);
+    // A line has ended, of which so much is kept.
+    fn end(&mut self, rt: HostRuntime, kept: &[u8]) {
         self.lines = self.lines.saturating_add(1);
-        self.length = 0;
         match text::line_of(kept) {
             Some(length) => self.judge(rt, first(kept, length)),
             None => self.troubled(rt),
         }
+    }
+}
+
+impl Input {
+    // The present line has ended.
+    fn end(&mut self, rt: HostRuntime) {
+        self.tally.end(rt, first(&self.line, self.length));
+        self.length = 0;
     }
 
     // What was read, line by line.
@@ -177,16 +187,17 @@ impl Tally {
 }
 
 fn main(rt: HostRuntime) {
-    let mut tally = Tally {
-        lines: 0,
-        vectors: 0,
-        agree: 0,
+    let mut input = Input {
+        tally: Tally {
+            lines: 0,
+            vectors: 0,
+            agree: 0,
+        },
         line: [0u8; 16002],
         length: 0,
         open: true,
     };
-    tally.run(rt);
-    let vectors = tally.vectors;
-    let agree = tally.agree;
+    input.run(rt);
+    let Tally { vectors, agree, .. } = input.tally;
     let _ = println!(rt; "{vectors} plans read, {agree} agree");
 }
