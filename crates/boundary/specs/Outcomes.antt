@@ -1,12 +1,13 @@
 -- Meaning: every outcome that the contract of a public call allows, and that any two of them are equal. Assumes nothing: these are definitions.
 -- A record has the clauses of a call's `ensures`, over what it is given and over all that it gives and leaves: what it answers, and what stands afterwards
 -- in each thing lent to it.
-use Rattle.std.specs.Prelude.{ℕ, ◌+◌, ◌≡◌, List, map, length, Result}
+use Rattle.std.specs.Prelude.{ℕ, ◌+◌, ◌≡◌, List, map, length, Result, is_ok}
 use Rattle.plan.specs.declared.Accepted.{Accepted}
 use Rattle.plan.specs.declared.Refusal.{Refusal}
 use Rattle.plan.specs.Answers.{answer_of, table_for, flags_for}
 use Rattle.plan.specs.Read.{read_plan}
-use Rattle.show.specs.Shown.{shown_part, shown_start, shown_refusal}
+use Rattle.show.specs.declared.Shown.{Shown}
+use Rattle.show.specs.Shown.{is_shown, shown_part, shown_start, shown_refusal, part_of, start_of, refusal_of, said}
 use Rattle.machine.specs.declared.Collected.{Collected}
 use Rattle.machine.specs.declared.Loaded.{Loaded}
 use Rattle.machine.specs.declared.Message.{Message}
@@ -31,17 +32,22 @@ use Rattle.listing.specs.Listing.{listed_in, listed_out}
 abbrev pub Fixed : {Given Outcome : Type 0} → (Given → Outcome → Type 0) → Type 0
 Fixed {Given} {Outcome} Allowed = (x : Given) (a b : Outcome) → Allowed x a → Allowed x b → a ≡ b
 
+-- the same of an answer that lends a part of what it was given: no contract says where in memory that lies, so outcomes are equal in all that they say
+abbrev pub FixedAs : {Given Outcome Said : Type 0} → (Outcome → Said) → (Given → Outcome → Type 0) → Type 0
+FixedAs {Given} {Outcome} {Said} say Allowed = (x : Given) (a b : Outcome) → Allowed x a → Allowed x b → say a ≡ say b
+
 -- `plan::accept`: the answer, the table and the flags
 pub record Accept (s : List ℕ) (o : Result Accepted Refusal × List ℕ × List ℕ) : Type 0 where
   pub is : o.0 ≡ answer_of (read_plan s)
   pub rows : o.1 ≡ table_for (read_plan s)
   pub flags : o.2 ≡ flags_for (read_plan s)
 
--- `show::show` of bytes and an activity: the part, its start and the refusal
-pub record Show (x : List ℕ × ℕ) (o : List ℕ × ℕ × ℕ) : Type 0 where
-  pub part : o.0 ≡ shown_part (read_plan x.0) x.0 x.1
-  pub place : o.1 ≡ shown_start (read_plan x.0) x.1
-  pub refused : o.2 ≡ shown_refusal (read_plan x.0) x.1
+-- `show::show` of bytes and an activity: a part and its start, or a refusal
+pub record Show (x : List ℕ × ℕ) (r : Result Shown ℕ) : Type 0 where
+  pub given : is_ok r ≡ is_shown (read_plan x.0) x.1
+  pub part : part_of r ≡ shown_part (read_plan x.0) x.0 x.1
+  pub place : start_of r ≡ shown_start (read_plan x.0) x.1
+  pub refused : refusal_of r ≡ shown_refusal (read_plan x.0) x.1
 
 -- `machine::load`
 pub record Load (s : List ℕ) (r : Loaded) : Type 0 where
@@ -91,7 +97,7 @@ pub record RunTold (x : State × List ℕ × ℕ × Tally × List ℕ) (o : Ran 
 -- EVERY OUTCOME IS FIXED, of every public call of document 01, of drop, of a window of offers and of a run that is told.
 pub record AllFixed : Type 0 where
   pub accept : Fixed Accept
-  pub show : Fixed Show
+  pub show : FixedAs said Show
   pub load : Fixed Load
   pub post : Fixed Post
   pub collect : Fixed Collect
