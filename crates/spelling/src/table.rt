@@ -73,10 +73,8 @@ impl Table<'_> {
     pub(crate) fn insert(&mut self, s: usize, r: usize, code: u32) -> usize {
         self.begin(r);
         if s <= r && r < self.rows.len() {
-            // Stays: (a) by `copy_within` the archive for C would need `memmove` from outside.
-            for i in (s..r).rev() {
-                self.rows[i + 1] = self.rows[i];
-            }
+            // Turned, and not moved by `copy_within`: by that the archive for C would need `memmove` from outside.
+            self.rows[s..r + 1].rotate_right(1);
         }
         self.begin(s);
         self.add(s, code);
