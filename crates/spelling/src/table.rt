@@ -73,8 +73,14 @@ impl Table<'_> {
     pub(crate) fn insert(&mut self, s: usize, r: usize, code: u32) -> usize {
         self.begin(r);
         if s <= r && r < self.rows.len() {
-            // Turned, and not moved by `copy_within`: by that the archive for C would need `memmove` from outside.
-            self.rows[s..r + 1].rotate_right(1);
+            // A row of an expression has a count, a code and a value; its other numbers are 0. The three go one by one: by
+            // `copy_within` or `rotate_right` the archive for C would need `memmove` from outside.
+            let rows = &mut self.rows[s..r + 1];
+            for i in (1..rows.len()).rev() {
+                for c in 0..3 {
+                    rows[i][c] = rows[i - 1][c];
+                }
+            }
         }
         self.begin(s);
         self.add(s, code);
@@ -84,7 +90,10 @@ impl Table<'_> {
     // Of the rows of an expression from row s to before row r those from row m on come first.
     pub(crate) fn swap(&mut self, s: usize, m: usize, r: usize) {
         if s <= m && m <= r && r <= self.rows.len() {
-            self.rows[s..r].rotate_left(m - s);
+            // Turned in two parts and then as a whole, and not by `rotate_left`, for the same reason.
+            self.rows[s..m].reverse();
+            self.rows[m..r].reverse();
+            self.rows[s..r].reverse();
         }
     }
 }
