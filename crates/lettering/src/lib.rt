@@ -36,6 +36,9 @@ impl Plan<'_> {
     }
 }
 
+// The names of a plan that has none: made anew by each call, they took some 17,000 instructions.
+static NO_NAMES: [u8; 16896] = [0; 16896];
+
 // The plan with this table and these flags, without names, from the front of `out` on: how long its text is.
 pub fn put_plan(
     out: &mut [u8; 65536],
@@ -44,9 +47,8 @@ pub fn put_plan(
     variables: u32,
     activities: usize,
 ) -> usize {
-    let names = [0u8; 16896];
     let plan = Plan {
-        names: &names,
+        names: &NO_NAMES,
         table,
         correlation,
     };
@@ -54,7 +56,7 @@ pub fn put_plan(
         bytes: out,
         used: 0,
     };
-    naming::put_variables(&mut text, &names, correlation, variables);
+    naming::put_variables(&mut text, &NO_NAMES, correlation, variables);
     activities::put_activities(&mut text, plan, activities);
     text.used
 }
