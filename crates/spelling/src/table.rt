@@ -73,27 +73,48 @@ impl Table<'_> {
     pub(crate) fn insert(&mut self, s: usize, r: usize, code: u32) -> usize {
         self.begin(r);
         if s <= r && r < self.rows.len() {
-            // A row of an expression has a count, a code and a value; its other numbers are 0. The three go one by one: by
-            // `copy_within` or `rotate_right` the archive for C would need `memmove` from outside.
-            let rows = &mut self.rows[s..r + 1];
-            for i in (1..rows.len()).rev() {
-                for c in 0..3 {
-                    rows[i][c] = rows[i - 1][c];
-                }
-            }
+            shift(&mut self.rows[s..r + 1]);
         }
         self.begin(s);
         self.add(s, code);
         more(r)
     }
 
-    // Of the rows of an expression from row s to before row r those from row m on come first.
+    // Of the rows of an expression from row s to before row r those from row m on come first: a last row alone in one go, more of them by
+    // turning both parts and then the whole (`rotate_left` needs `memmove` too).
     pub(crate) fn swap(&mut self, s: usize, m: usize, r: usize) {
-        if s <= m && m <= r && r <= self.rows.len() {
-            // Turned in two parts and then as a whole, and not by `rotate_left`, for the same reason.
-            self.rows[s..m].reverse();
-            self.rows[m..r].reverse();
-            self.rows[s..r].reverse();
+        if s <= m && m < r && r <= self.rows.len() {
+            if r - m == 1 {
+                let last = self.rows[m];
+                shift(&mut self.rows[s..r]);
+                self.rows[s] = last;
+            } else {
+                turn(&mut self.rows[s..m]);
+                turn(&mut self.rows[m..r]);
+                turn(&mut self.rows[s..r]);
+            }
+        }
+    }
+}
+
+// Rows of an expression go one row on, over the last of these. Each has a count, a code and a value, and its other numbers are 0. The
+// three go one by one: by `copy_within` or `rotate_right` the archive for C would need `memmove` from outside.
+fn shift(rows: &mut [[u32; 20]]) {
+    for i in (1..rows.len()).rev() {
+        for c in 0..3 {
+            rows[i][c] = rows[i - 1][c];
+        }
+    }
+}
+
+// Rows of an expression, the last first.
+fn turn(rows: &mut [[u32; 20]]) {
+    let n = rows.len();
+    for i in 0..n / 2 {
+        for c in 0..3 {
+            let first = rows[i][c];
+            rows[i][c] = rows[n - 1 - i][c];
+            rows[n - 1 - i][c] = first;
         }
     }
 }
